@@ -1,0 +1,16 @@
+pub mod Complete
+pub mod Counts
+pub mod Known
+pub mod Lists
+pub mod Making
+pub mod Ordered
+pub mod Parts
+pub mod ReadOn
+pub mod Readings
+pub mod Shown
+pub mod Sound
+pub mod Spelling
+pub mod Standing
+pub mod StepPlaces
+pub mod StepRows
+pub mod Verdicts
