@@ -77,6 +77,6 @@ fn capacity(rt: &LibcRuntime, word: &str) -> Result<usize, Failure> {
 fn survey_file(rt: &LibcRuntime, path: &str, capacity: usize) -> Result<(), Failure> {
     match fs::read_to_string(rt, path) {
         Ok(text) => survey_text(rt, path, text.as_str(), capacity),
-        Err(error) => Err(Failure::Told(format!(rt.alloc(), "{path}: {error}")?)),
+        Err(error) => Err(Failure::Told(format!(rt.alloc(), "{path}: cannot be read: {error}")?)),
     }
 }

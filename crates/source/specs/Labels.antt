@@ -1,7 +1,10 @@
 -- Labels: when two are equal, how many values one has, and which ones a source may show.
 use Prim.Native.Nat.{ℕ, _<_, _≤_}
 use mathlib.Core.Bool.{Bool, true, false, _&&_}
+use mathlib.Core.List.{List, _++_}
+use lib.Chars.{codes}
 use lib.Dec.{eqb}
+use Rattle.std.specs.Written.{decimal}
 use Rattle.source.specs.declared.label.Label.{Label}
 use Rattle.source.specs.declared.label.Label.the-variants.{Silent, Send, Receive}
 
@@ -34,3 +37,9 @@ abbrev pub is-receive : Label → Bool
 is-receive Silent = false
 is-receive (Send c v) = false
 is-receive (Receive c) = true
+
+-- what is printed of a label
+abbrev pub label-text : Label → List ℕ
+label-text Silent = codes "silent"
+label-text (Send c v) = codes "send " ++ (decimal v ++ (codes " on channel " ++ decimal c))
+label-text (Receive c) = codes "receive on channel " ++ decimal c

@@ -1,7 +1,8 @@
 // What a step does.
 ghost use mathlib.Core.Path.{_≡_};
 ghost use mathlib.Core.Bool.{true};
-ghost use Rattle.source.specs.Labels.{same-label, value-count};
+ghost use Rattle.std.specs.declared.option.Option.the-variants.{Some};
+ghost use Rattle.source.specs.Labels.{same-label, value-count, label-text};
 use std::fmt;
 
 // A channel is a number from 0 to 63, and a value one below the source's range.
@@ -15,6 +16,8 @@ pub enum Label {
 }
 
 pub impl fmt::Display for Label as LabelDisplay {
+    ghost shown = { λ label. Some (label-text label) };
+
     fn fmt<W: fmt::Write>(&self, f: &mut fmt::Formatter<W>) -> fmt::Result {
         match self {
             Label::Silent => f.write_str("silent"),

@@ -1,6 +1,6 @@
 pub mod Complete
-pub mod Counts
 pub mod Known
+pub mod Largest
 pub mod Lists
 pub mod Making
 pub mod Ordered

@@ -1,13 +1,9 @@
--- What holds of each element of a list, and the largest of some numbers.
-use Prim.Native.Nat.{ℕ, zero, suc, _<_, _≤_}
-use mathlib.Core.Path.{_≡_}
+-- What holds of each element of a list.
+use Prim.Native.Nat.{ℕ, zero, suc, _<_}
 use mathlib.Core.List.{List, [], _∷_, _++_}
-use mathlib.Core.Logic.{_⊎_, inl, inr}
 use native.Mathlib.Omega.{arith}
-use lib.ListN.{replicate}
-use Rattle.std.proofs.shelf.Tests.{cases-eq}
+use lib.ListN.{length, getD, replicate}
 use Rattle.table.specs.Steps.{Each}
-use Rattle.table.specs.Views.{largest}
 
 pub each-append : {A : Type 0} (P : A → Type 0) (xs ys : List A) → Each P xs → Each P ys → Each P (xs ++ ys)
 each-append P [] ys p q = q
@@ -25,17 +21,8 @@ pub each-replicate : {A : Type 0} (P : A → Type 0) (x : A) → P x → (n : �
 each-replicate P x p zero = tt
 each-replicate P x p (suc n) = (p, each-replicate P x p n)
 
--- the largest is at most what bounds them all, and at least each of them
-pub largest-least : (f : ℕ → ℕ) (n w : ℕ) → ((s : ℕ) → f s ≤ w) → largest f n ≤ w
-largest-least f zero w b = omega arith
-largest-least f (suc n) w b = omega (arith, largest-least f n w b, b n)
-
-pub largest-above : (f : ℕ → ℕ) (n s : ℕ) → s < n → f s ≤ largest f n
-largest-above f zero s l = omega arith
-largest-above f (suc n) s l =
-    elim (cases-eq s n) [ inl same ↦ rw same (omega arith) | inr other ↦ omega (arith, largest-above f n s (omega arith)) ]
-
--- so a bound of them all that one of them meets is the largest
-pub largest-is : (f : ℕ → ℕ) (n w : ℕ) → ((s : ℕ) → f s ≤ w) → (w ≡ 0) ⊎ ((s : ℕ) × (s < n) × (f s ≡ w)) → w ≡ largest f n
-largest-is f n w b (inl none) = omega (arith, largest-least f n w b)
-largest-is f n w b (inr met) = omega (arith, largest-least f n w b, largest-above f n (met .0) (met .1), met .2)
+-- what holds of each element holds of the one at a place
+pub each-at : {A : Type 0} (P : A → Type 0) (xs : List A) (i : ℕ) (d : A) → Each P xs → i < length xs → P (getD xs i d)
+each-at P [] i d e l = absurd (omega arith)
+each-at P (x ∷ xs) zero d e l = e .0
+each-at P (x ∷ xs) (suc i) d e l = each-at P xs i d (e .1) (omega arith)

@@ -18,7 +18,7 @@ use Rattle.table.specs.declared.row.Row.{Row}
 use Rattle.table.specs.Reads.{head-fits, read-table}
 use Rattle.table.specs.Steps.{Head-fits, Spells, Well-formed, Checked, verdict, steps-at}
 use Rattle.table.specs.Views.{degree-of, largest, table-meaning}
-use Rattle.table.proofs.Counts.{largest-same}
+use Rattle.table.proofs.Largest.{largest-same}
 use Rattle.table.proofs.Readings.{read-width, head-from-test}
 use Rattle.table.proofs.Shown.{spells-shows}
 use Rattle.table.proofs.Verdicts.{checked-ok, checked-err, checked-same}

@@ -14,7 +14,7 @@ use Rattle.choose.proofs.Laws.{from-on, count-same, chosen-same}
 use Rattle.table.specs.declared.row.Row.{Row}
 use Rattle.table.specs.Parts.{from-reached, begins-in, Sorted, Splits, Part}
 use Rattle.table.specs.Views.{no-row, begins, step-row, degree-of}
-use Rattle.table.proofs.Counts.{test-at, counted, counted-part, picked-part}
+use Rattle.choose.proofs.Elements.{test-at, counted, counted-part, picked-part}
 use Rattle.table.proofs.StepRows.{begins-of, none-begun}
 
 -- in sorted rows, those that leave a state not below `from` are the last ones

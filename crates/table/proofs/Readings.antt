@@ -20,7 +20,7 @@ use Rattle.table.specs.declared.row.Row.{Row}
 use Rattle.table.specs.Reads.{unread, head-fits, follow, read-table}
 use Rattle.table.specs.Steps.{Step, Head-fits, Spells, Well-formed, steps-at}
 use Rattle.table.specs.Views.{largest}
-use Rattle.table.proofs.Lists.{largest-is}
+use Rattle.table.proofs.Largest.{largest-is}
 use Rattle.table.proofs.Standing.{some-same, run, run-none, run-append, closed-none, closed-fit}
 use Rattle.table.proofs.ReadOn.{Says, says-table}
 use Rattle.table.proofs.Complete.{run-spelt}

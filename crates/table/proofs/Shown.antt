@@ -18,7 +18,9 @@ use Rattle.table.specs.declared.row.Head.{Head}
 use Rattle.table.specs.declared.row.Row.{Row}
 use Rattle.table.specs.Steps.{Step, Each, Head-fits, Step-fits, Steps-fit, Spells, spelling, steps-at}
 use Rattle.table.specs.Views.{no-row, begins-at, label-from, landing-from, largest, step-row, degree-of, table-meaning, no-step, step-of, Shows}
-use Rattle.table.proofs.Counts.{picked-none, each-at, largest-above, largest-met, largest-below}
+use Rattle.choose.proofs.Elements.{picked-none}
+use Rattle.table.proofs.Largest.{largest-above, largest-met, largest-below}
+use Rattle.table.proofs.Lists.{each-at}
 use Rattle.table.proofs.StepPlaces.{steps-other, each-here, degree-spelling, Stands, step-stands, stands-label, stands-receive, landing-there, stands-landing}
 use Rattle.table.proofs.StepRows.{begins-of}
 

@@ -19,7 +19,7 @@ use Rattle.table.specs.declared.row.Head.{Head}
 use Rattle.table.specs.declared.row.Row.{Row}
 use Rattle.table.specs.Steps.{Step, Each, Step-fits, row-of, rows-of, spelling, steps-at}
 use Rattle.table.specs.Views.{no-row, label-of, label-from, landing-from, step-row, degree-of, no-step, step-of}
-use Rattle.table.proofs.Counts.{counted, counted-append, picked-front, picked-back}
+use Rattle.choose.proofs.Elements.{counted, counted-append, picked-front, picked-back}
 use Rattle.table.proofs.StepRows.{begins-of, row-to, row-label, row-receive, rows-length, rows-at, value-some, step-counted, step-picked, step-elsewhere}
 
 -- the steps of a state: a step is one of them, or it is left out

@@ -15,7 +15,7 @@ use Rattle.source.specs.declared.label.Label.the-variants.{Silent, Send, Receiv
 use Rattle.table.specs.declared.row.Row.{Row}
 use Rattle.table.specs.Steps.{row-of, rows-from}
 use Rattle.table.specs.Views.{no-row, begins, label-of}
-use Rattle.table.proofs.Counts.{counted, picked, counted-none, counted-one, picked-one}
+use Rattle.choose.proofs.Elements.{counted, picked, counted-none, counted-one, picked-one}
 
 -- whether a row begins a step of the state s
 abbrev pub begins-of : ℕ → Row → Bool

@@ -1,5 +1,4 @@
--- Counting and choosing the elements of a list that pass a test, where the list is made of others; and
--- the largest of some numbers.
+-- Counting and choosing the elements of a list that pass a test, where the list is made of others.
 use Prim.Native.Nat.{ℕ, zero, suc, _+_, _<_, _≤_}
 use mathlib.Core.Path.{_≡_, refl, sym, ap, _∙_}
 use mathlib.Core.Bool.{Bool, true, false}
@@ -8,13 +7,11 @@ use mathlib.Core.Logic.{inl, inr}
 use native.Mathlib.Omega.{arith}
 use lib.ListN.{length, getD, length-append}
 use Rattle.std.proofs.shelf.Lists.{getD-append-left, getD-append-add}
-use Rattle.std.proofs.shelf.Tests.{cases-lt, cases-eq}
+use Rattle.std.proofs.shelf.Tests.{cases-lt}
 use Rattle.std.specs.declared.option.Option.{Option}
 use Rattle.std.specs.declared.option.Option.the-variants.{Some, None}
 use Rattle.choose.specs.Choice.{count, chosen}
 use Rattle.choose.proofs.Laws.{count-sum, count-same, count-none, count-pass, chosen-sum, chosen-same, chosen-front, chosen-none, chosen-at, from-on}
-use Rattle.table.specs.Steps.{Each}
-use Rattle.table.specs.Views.{largest}
 
 -- whether element i passes, how many do, and which does after k others
 abbrev pub test-at : {A : Type 0} → (A → Bool) → A → List A → ℕ → Bool
@@ -90,36 +87,3 @@ module _ {A : Type 0} (q : A → Bool) (d : A) where
 
   pub picked-one : (x : A) (xs : List A) → q x ≡ true → picked q d (x ∷ xs) 0 ≡ Some 0
   picked-one x xs e = chosen-at (test-at q d (x ∷ xs)) (length (x ∷ xs)) 0 0 (record { below = omega arith; passes = e; after = refl })
-
--- what holds of each element holds of the one at a place
-pub each-at : {A : Type 0} (P : A → Type 0) (xs : List A) (i : ℕ) (d : A) → Each P xs → i < length xs → P (getD xs i d)
-each-at P [] i d e l = absurd (omega arith)
-each-at P (x ∷ xs) zero d e l = e .0
-each-at P (x ∷ xs) (suc i) d e l = each-at P xs i d (e .1) (omega arith)
-
--- the largest of some numbers is none below any of them, is one of them, and is above nothing that none of them is above
-pub largest-above : (f : ℕ → ℕ) (n i : ℕ) → i < n → f i ≤ largest f n
-largest-above f zero i l = absurd (omega arith)
-largest-above f (suc n) i l =
-    elim (cases-eq i n) [
-      | inl same ↦ omega (arith, ap f same)
-      | inr other ↦ omega (arith, largest-above f n i (omega arith))
-    ]
-
-pub largest-met : (f : ℕ → ℕ) (n : ℕ) → 1 ≤ n → (i : ℕ) × (f i ≡ largest f n)
-largest-met f zero some = absurd (omega arith)
-largest-met f (suc zero) some = (0, omega arith)
-largest-met f (suc (suc n)) some =
-    let before = largest-met f (suc n) (omega arith) in
-    elim (cases-lt (largest f (suc n)) (f (suc n))) [
-      | inl less ↦ (suc n, omega arith)
-      | inr most ↦ (before .0, omega (arith, before .1))
-    ]
-
-pub largest-below : (f : ℕ → ℕ) (n b : ℕ) → ((i : ℕ) → f i ≤ b) → largest f n ≤ b
-largest-below f zero b below = omega arith
-largest-below f (suc n) b below = omega (arith, largest-below f n b below, below n)
-
-pub largest-same : (f g : ℕ → ℕ) (n : ℕ) → ((i : ℕ) → f i ≡ g i) → largest f n ≡ largest g n
-largest-same f g zero e = refl
-largest-same f g (suc n) e = omega (arith, largest-same f g n e, e n)
