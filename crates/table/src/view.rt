@@ -5,10 +5,10 @@ ghost use lib.Dec.{eqb};
 ghost use mathlib.Core.Bool.{cond};
 ghost use mathlib.Core.List.{List};
 ghost use mathlib.Core.Path.{_≡_};
-ghost use Rattle.source.specs.Meaning.{still};
+ghost use Rattle.source.specs.Meaning.{still, Lawful};
 ghost use Rattle.table.specs.Parts.{Part};
 ghost use Rattle.table.specs.Steps.{Step, Spells, Well-formed};
-ghost use Rattle.table.specs.Views.{table-meaning, degree-of, label-of, step-row, Shows};
+ghost use Rattle.table.specs.Views.{table-meaning, largest, degree-of, label-of, step-row, Shows};
 use crate::check::measure;
 use crate::part::StateRows;
 use crate::part::rows_at;
@@ -29,9 +29,25 @@ impl<'a> Table<'a> {
         ensures refused { λ r. ⌜ ((Well-formed head (now (rows .entry)) → ⊥) → table-meaning (r .head) (now (r .rows)) ≡ still 1) ⌝ }
         ensures shows { λ r. ⌜ ((steps : List Step) → Spells head (now (rows .entry)) steps → Shows head steps (table-meaning (r .head) (now (r .rows)))) ⌝ }
     {
-        if let Ok(width) = measure(head, rows) {
-            return Table { head, rows, width };
+        match measure(head, rows) {
+            Ok(width) => Table::accepted(head, rows, width),
+            Err(_) => Table::refused(rows),
         }
+    }
+
+    // The table of well-formed rows, of which the width is known.
+    fn accepted(head: Head, rows: &'a [Row], width: u32) -> Table<'a>
+        requires formed { ⌜ Well-formed head (now rows) ⌝ }
+        requires widest { ⌜ width ≡ largest (degree-of (now rows)) (head .states) ⌝ }
+        ensures { λ r. ⌜ table-meaning (r .head) (now (r .rows)) ≡ table-meaning head (now (rows .entry)) ⌝ }
+    {
+        Table { head, rows, width }
+    }
+
+    // The still source of range 1: one state, and none of the rows.
+    fn refused(rows: &'a [Row]) -> Table<'a>
+        ensures { λ r. ⌜ table-meaning (r .head) (now (r .rows)) ≡ still 1 ⌝ }
+    {
         Table {
             head: Head {
                 states: 1,
@@ -41,6 +57,14 @@ impl<'a> Table<'a> {
             rows: &rows[0..0],
             width: 0,
         }
+    }
+
+    // The range, of a table that keeps the laws of a source.
+    fn lawful_range(&self) -> u8
+        ensures value { λ r. ⌜ r ≡ now (self .entry) .head .range ⌝ }
+        ensures lawful { λ _. ⌜ Lawful (table-meaning (now (self .entry) .head) (now (now (self .entry) .rows))) ⌝ }
+    {
+        self.head.range
     }
 
     // The rows of a state: none where there is no such state.
@@ -115,7 +139,7 @@ pub impl<'a> Source for Table<'a> as TableSource {
     }
 
     fn range(&self) -> u8 {
-        self.head.range
+        self.lawful_range()
     }
 
     fn width(&self) -> u32 {

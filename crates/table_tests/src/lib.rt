@@ -3,7 +3,8 @@
 mod checks;
 #[cfg(test)]
 mod large;
-pub mod rows;
+#[cfg(test)]
+mod rows;
 #[cfg(test)]
 mod surveys;
 #[cfg(test)]

@@ -1,11 +1,8 @@
 // Rows for the tests.
-ghost use mathlib.Core.Path.{_≡_};
 use table::row::Head;
 use table::row::Row;
 
-pub fn head(states: u32, range: u8, root: u32) -> Head
-    ensures { λ r. ⌜ r ≡ record { states = states; range = range; root = root } ⌝ }
-{
+pub(crate) fn head(states: u32, range: u8, root: u32) -> Head {
     Head {
         states,
         range,
@@ -13,9 +10,7 @@ pub fn head(states: u32, range: u8, root: u32) -> Head
     }
 }
 
-pub fn silent(from: u32, to: u32) -> Row
-    ensures { λ r. ⌜ r ≡ record { from = from; kind = 0; channel = 0; value = 0; to = to } ⌝ }
-{
+pub(crate) fn silent(from: u32, to: u32) -> Row {
     Row {
         from,
         kind: 0,
@@ -25,9 +20,7 @@ pub fn silent(from: u32, to: u32) -> Row
     }
 }
 
-pub fn send(from: u32, channel: u8, value: u8, to: u32) -> Row
-    ensures { λ r. ⌜ r ≡ record { from = from; kind = 1; channel = channel; value = value; to = to } ⌝ }
-{
+pub(crate) fn send(from: u32, channel: u8, value: u8, to: u32) -> Row {
     Row {
         from,
         kind: 1,
@@ -37,9 +30,7 @@ pub fn send(from: u32, channel: u8, value: u8, to: u32) -> Row
     }
 }
 
-pub fn receive(from: u32, channel: u8, value: u8, to: u32) -> Row
-    ensures { λ r. ⌜ r ≡ record { from = from; kind = 2; channel = channel; value = value; to = to } ⌝ }
-{
+pub(crate) fn receive(from: u32, channel: u8, value: u8, to: u32) -> Row {
     Row {
         from,
         kind: 2,

@@ -1,7 +1,7 @@
 use mathlib.Core.Path.{refl}
 use Rattle.table.proofs.Known.{steps-of, spells-of}
 use Rattle.table.proofs.Shown.{spells-lawful}
-use Rattle.table.proofs.view.TableSource.range.Needs as need
+use Rattle.table.proofs.table.Table.lawful_range.Needs as need
 
 pub returns : need.returns
 returns c =
