@@ -2,6 +2,8 @@
 ghost use mathlib.Core.Path.{_≡_};
 ghost use Rattle.std.specs.Of.Vec.{vec-len};
 ghost use Rattle.std.specs.Vec.{made};
+ghost use Rattle.table_text.specs.Settings.{line-at, told-row, next-place, next-head};
+ghost use Rattle.table_text.specs.Words.{words-in};
 use crate::expected::Expected;
 use crate::expected::TextFault;
 use crate::expected::TextFaultFromAllocError;
@@ -55,6 +57,9 @@ impl Reader {
 
     // A setting is kept, and a row is handed back.
     fn read_words(&mut self, words: &[&str]) -> Result<Option<Row>, Expected>
+        ensures value { λ r. ⌜ r ≡ told-row (line-at (now (self .entry) .place) (now (self .entry) .table .head) (words-in (now (words .entry)))) ⌝ }
+        ensures place { λ _. ⌜ now (self .exit) .place ≡ next-place (now (self .entry) .place) (line-at (now (self .entry) .place) (now (self .entry) .table .head) (words-in (now (words .entry)))) ⌝ }
+        ensures head { λ _. ⌜ now (self .exit) .table .head ≡ next-head (now (self .entry) .table .head) (line-at (now (self .entry) .place) (now (self .entry) .table .head) (words-in (now (words .entry)))) ⌝ }
         ensures rows { λ _. ⌜ now (self .exit) .table .rows ≡ now (self .entry) .table .rows ⌝ }
         ensures lines { λ _. ⌜ now (self .exit) .table .lines ≡ now (self .entry) .table .lines ⌝ }
     {

@@ -1,0 +1,3 @@
+pub mod KindWords
+pub mod LineWords
+pub mod Numbers
