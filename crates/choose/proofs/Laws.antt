@@ -3,15 +3,15 @@
 use Prim.Native.Nat.{ℕ, zero, suc, _+_, _<_, _≤_}
 use mathlib.Core.Path.{_≡_, refl, sym, ap, subst, _∙_}
 use mathlib.Core.Bool.{Bool, true, false, cond, _&&_}
-use mathlib.Core.Logic.{_⊎_, inl, inr}
+use mathlib.Core.Logic.{inl, inr}
 use native.Mathlib.Omega.{arith}
 use native.Mathlib.Nat.{add-zero, add-suc}
 use native.Mathlib.Numerals.{add-one}
 use lib.Dec.{eqb}
-use Rattle.std.proofs.shelf.Tests.{cases-bool, cases-lt, cases-eq, eq-eqb, eqb-true, ne-eqb, cond-true, cond-false, and-parts, and-from, and-left, and-right, both-ways}
+use Rattle.std.proofs.shelf.Tests.{cases-bool, cases-lt, cases-eq, eq-eqb, eqb-true, ne-eqb, cond-true, cond-false, and-parts, and-from, and-left, and-right}
 use Rattle.std.specs.declared.option.Option.{Option}
 use Rattle.std.specs.declared.option.Option.the-variants.{Some, None}
-use Rattle.choose.specs.Choice.{count, chosen, Chosen, Undoes, Least, First}
+use Rattle.choose.specs.Choice.{count, chosen, Chosen, Undoes, First}
 
 -- one more number: it passes, or it does not
 pub count-pass : (p : ℕ → Bool) (n : ℕ) → p n ≡ true → count p (suc n) ≡ suc (count p n)

@@ -1,5 +1,5 @@
 -- Labels: when two are equal, how many values one has, and which ones a source may show.
-use Prim.Native.Nat.{ℕ, _<_, _≤_}
+use Prim.Native.Nat.{ℕ, _<_}
 use mathlib.Core.Bool.{Bool, true, false, _&&_}
 use mathlib.Core.List.{List, _++_}
 use lib.Chars.{codes}

@@ -1,7 +1,7 @@
 -- Reading a table row by row: what the check does. That it answers as it should is what the check's
 -- contract says, by `Checked`, which knows nothing of this reading.
 use Prim.Native.Nat.{ℕ, suc, max}
-use mathlib.Core.Bool.{Bool, cond, _&&_, _||_}
+use mathlib.Core.Bool.{Bool, cond, _&&_}
 use mathlib.Core.List.{List, [], _∷_}
 use lib.Dec.{eqb, ltb, leb}
 use Rattle.std.specs.declared.option.Option.{Option}

@@ -38,7 +38,8 @@ fn right_landings<S: Source>(table: &S) -> u64 {
     right
 }
 
-// If a question went through all rows, these half a million questions would take days.
+// If a question went through all rows, these half a million questions would look at some hundred
+// thousand million of them.
 #[test]
 fn every_question_is_quick(rt: LibcRuntime) -> Result<(), Fail> {
     let rows = large(rt.alloc())?;

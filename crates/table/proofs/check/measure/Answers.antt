@@ -1,5 +1,5 @@
 -- The reading's answer is the only one that the check may give, and its number is the width.
-use mathlib.Core.Path.{_≡_, sym, subst}
+use mathlib.Core.Path.{sym, subst}
 use Rattle.std.specs.declared.result.Result.the-variants.{Err}
 use Rattle.table.specs.declared.fault.Fault.the-variants.{Head as Bad-head}
 use Rattle.table.specs.Steps.{Checked, verdict}

@@ -1,4 +1,4 @@
-use mathlib.Core.Path.{_≡_, ap, _∙_}
+use mathlib.Core.Path.{ap, _∙_}
 use Rattle.std.specs.shelf.Text.{sameBytes}
 use Rattle.table_text.proofs.LineWords.{same-test}
 use Rattle.table_text.proofs.line.begins_with.Needs as need
