@@ -1,5 +1,7 @@
 // Counting and choosing among the numbers below a bound by a test: written and proved once, for
 // whatever has a test.
+#![tactic(auto)]
+
 ghost use Rattle.std.specs.Prelude.{◌≡◌, ℕ, ◌≤◌, Bool};
 ghost use Rattle.choose.specs.Choice.{count, chosen, Undoes, First, Rising, Split};
 
@@ -13,7 +15,7 @@ pub trait Test {
 
 // How many numbers below `bound` pass.
 pub fn count_passing<P: Test>(test: &P, bound: usize) -> usize
-    ensures value { result ≡ count (holds test.now) bound }
+    ensures value { result ≡ count (P.holds test.now) bound }
     ensures within { result ≤ bound }
 {
     let mut passed = 0;
@@ -27,8 +29,8 @@ pub fn count_passing<P: Test>(test: &P, bound: usize) -> usize
 
 // The number below `bound` that passes after exactly `k` others.
 pub fn choose_passing<P: Test>(test: &P, bound: usize, k: usize) -> Option<usize>
-    ensures value { result ≡ chosen (holds test.now) bound k }
-    ensures undoes { Undoes (holds test.now) bound k result }
+    ensures value { result ≡ chosen (P.holds test.now) bound k }
+    ensures undoes { Undoes (P.holds test.now) bound k result }
 {
     let mut found = 0;
     for i in 0..bound {
@@ -44,8 +46,8 @@ pub fn choose_passing<P: Test>(test: &P, bound: usize, k: usize) -> Option<usize
 
 // The least number below `bound` that passes.
 pub fn first_passing<P: Test>(test: &P, bound: usize) -> Option<usize>
-    ensures value { result ≡ chosen (holds test.now) bound 0 }
-    ensures first { First (holds test.now) bound result }
+    ensures value { result ≡ chosen (P.holds test.now) bound 0 }
+    ensures first { First (P.holds test.now) bound result }
 {
     for least in 0..bound {
         if test.passes(least) {
@@ -59,7 +61,7 @@ pub fn first_passing<P: Test>(test: &P, bound: usize) -> Option<usize>
 // passes, stays passing.
 pub fn split_passing<P: Test>(test: &P, bound: usize) -> usize
     ensures within { result ≤ bound }
-    ensures split { Rising (holds test.now) bound → Split (holds test.now) bound result }
+    ensures split { Rising (P.holds test.now) bound → Split (P.holds test.now) bound result }
 {
     let mut low = 0;
     let mut high = bound;

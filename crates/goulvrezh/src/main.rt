@@ -1,4 +1,6 @@
 // Goulvrezh: what a conversation can do, told in lines.
+#![tactic(auto)]
+
 mod example;
 mod failure;
 mod report;

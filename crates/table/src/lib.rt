@@ -1,4 +1,6 @@
 // The plain table: a source written down row by row.
+#![tactic(auto)]
+
 pub mod check;
 pub mod fault;
 mod part;

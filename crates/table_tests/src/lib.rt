@@ -1,4 +1,6 @@
 // Examples of tables, their refusals and their surveys. Each is proved to be safe, and then run.
+#![tactic(auto)]
+
 #[cfg(test)]
 mod checks;
 #[cfg(test)]

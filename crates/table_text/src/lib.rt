@@ -1,4 +1,6 @@
 // The text form of the plain table, which docs/TABLES.md defines.
+#![tactic(auto)]
+
 pub mod expected;
 pub mod line;
 pub mod text;

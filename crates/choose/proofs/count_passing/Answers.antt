@@ -4,8 +4,8 @@ use Rattle.choose.proofs.Laws.{count_at_most, count_more, count_no_more}
 use Rattle.choose.proofs.count_passing.Goals as goal
 use Rattle.choose.proofs.count_passing.Goals.{then-passes, else-passes}
 
-pub overflow-add-passed : goal.overflow-add-passed
-overflow-add-passed g c = omega (arith, count_at_most (g.P.Test.holds c.args.test.now) c.loop-i.i)
+pub overflow_add-passed : goal.overflow_add-passed
+overflow_add-passed g c = omega (arith, count_at_most (g.P.Test.holds c.args.test.now) c.loop-i.i)
 
 pub loop-i-preserved : goal.loop-i-preserved
 loop-i-preserved g c =

@@ -6,18 +6,18 @@ use Rattle.table.proofs.Making.{Measured, read_measured}
 use Rattle.table.proofs.Verdicts.{checked_head, checked_same}
 use Rattle.table.proofs.check.measure.Goals as goal
 
-pub returns-then-head-fits : goal.returns-then-head-fits
-returns-then-head-fits c =
+pub returns-then-head_fits : goal.returns-then-head_fits
+returns-then-head_fits c =
     let h = c.args.head in
     let rows = c.args.rows.now in
-    let known : Measured h rows c.read-table.result =
-    subst (λ r. Measured h rows r) (sym c.read-table.ensures) (read_measured h rows (sym c.if-head-fits.ensures))
+    let known : Measured h rows c.read_table.result =
+    subst (λ r. Measured h rows r) (sym c.read_table.ensures) (read_measured h rows (sym c.if-head_fits.ensures))
     in
-    record { checked = known.0; only = λ other. checked_same h rows (verdict c.read-table.result) other known.0; width = known.1 }
+    record { checked = known.0; only = λ other. checked_same h rows (verdict c.read_table.result) other known.0; width = known.1 }
 
-pub returns-else-head-fits : goal.returns-else-head-fits
-returns-else-head-fits c =
+pub returns-else-head_fits : goal.returns-else-head_fits
+returns-else-head_fits c =
     let h = c.args.head in
     let rows = c.args.rows.now in
-    let so : Checked h rows (Err BadHead) = checked_head h rows (sym c.if-head-fits.ensures) in
+    let so : Checked h rows (Err BadHead) = checked_head h rows (sym c.if-head_fits.ensures) in
     record { checked = so; only = λ other. checked_same h rows (Err BadHead) other so; width = tt }

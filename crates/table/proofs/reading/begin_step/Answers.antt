@@ -5,7 +5,7 @@ use Rattle.table.specs.declared.row.Head.{Head}
 use Rattle.table.specs.declared.row.Row.{Row}
 use Rattle.table.specs.Reads.{may_begin, begun, begin_step}
 use Rattle.table.proofs.reading.begin_step.Goals as goal
-use Rattle.table.proofs.reading.begin_step.Goals.{then-row-before, else-row-before, then-row-before-2-via-then-row-before-2, then-row-before-2-via-else-row-before-2+then-begun-ge-MOST-STEPS, then-row-before-2-via-else-row-before-2+else-begun-ge-MOST-STEPS+then-not-may-begin}
+use Rattle.table.proofs.reading.begin_step.Goals.{then-row-before, else-row-before, then-row-before-2-via-then-row-before-2, then-row-before-2-via-else-row-before-2+then-begun-ge-MOST_STEPS, then-row-before-2-via-else-row-before-2+else-begun-ge-MOST_STEPS+then-not-may_begin}
 
 -- a row is refused that is out of order, one too many, or of no kind that may begin a step
 module _ (h : Head) (r : Reading) (row : Row) where
@@ -32,6 +32,6 @@ returns-then-row-before-2 c =
     ] in
     elim c.then-row-before-2.branch [
       | then-row-before-2-via-then-row-before-2 w ↦ out_of_order h r row w.if-row-before-2.true
-      | then-row-before-2-via-else-row-before-2+then-begun-ge-MOST-STEPS w ↦ too_many h r row (subst (λ n. 64 ≤ n) count w.if-begun-ge-MOST-STEPS.true)
-      | then-row-before-2-via-else-row-before-2+else-begun-ge-MOST-STEPS+then-not-may-begin w ↦ no_kind h r row (sym w.if-not-may-begin.ensures)
+      | then-row-before-2-via-else-row-before-2+then-begun-ge-MOST_STEPS w ↦ too_many h r row (subst (λ n. 64 ≤ n) count w.if-begun-ge-MOST_STEPS.true)
+      | then-row-before-2-via-else-row-before-2+else-begun-ge-MOST_STEPS+then-not-may_begin w ↦ no_kind h r row (sym w.if-not-may_begin.ensures)
     ]

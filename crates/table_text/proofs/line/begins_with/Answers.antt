@@ -5,5 +5,5 @@ use Rattle.table_text.proofs.line.begins_with.Goals as goal
 
 pub returns : goal.returns
 returns c =
-    same_test c.word-at.result.now c.args.name.now c.eq.result c.eq.ensures
-    ∙ ap (λ w. bytes_eq w c.args.name.now) c.word-at.ensures
+    same_test c.word_at.result.now c.args.name.now c.eq.result c.eq.ensures
+    ∙ ap (λ w. bytes_eq w c.args.name.now) c.word_at.ensures

@@ -6,6 +6,6 @@ use Rattle.table_text.proofs.line.large_number.Goals as goal
 
 pub returns : goal.returns
 returns c =
-    let plus = starts_char 43 c.args.word.now c.starts-with.result c.starts-with.ensures.cases (omega arith) (omega arith) in
+    let plus = starts_char 43 c.args.word.now c.starts_with.result c.starts_with.ensures.cases (omega arith) (omega arith) in
     c.ok.ensures.value
-    ∙ parsed_number 32 c.args.word.now c.parse.result c.parse.ensures.value.0 (λ e. both_ways c.starts-with.result c.if-starts-with.false (plus.1 e))
+    ∙ parsed_number 32 c.args.word.now c.parse.result c.parse.ensures.value.0 (λ e. both_ways c.starts_with.result c.if-starts_with.false (plus.1 e))

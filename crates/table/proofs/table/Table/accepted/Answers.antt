@@ -1,4 +1,4 @@
 use Rattle.table.proofs.table.Table.accepted.Goals as goal
 
-pub invariant-of-result : goal.invariant-of-result
-invariant-of-result c = (∣ c.requires.formed ∣₁, (c.requires.widest, tt))
+pub invariant_of-result : goal.invariant_of-result
+invariant_of-result c = record { accepted = ∣ c.requires.formed ∣₁; widest = c.requires.widest }

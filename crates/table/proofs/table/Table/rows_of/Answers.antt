@@ -4,8 +4,8 @@ use Rattle.table.proofs.Parts.{part_none}
 use Rattle.table.proofs.Ordered.{spells_sorted, spells_inside}
 use Rattle.table.proofs.table.Table.rows_of.Goals as goal
 
-pub rows-at-requires : goal.rows-at-requires
-rows-at-requires c =
+pub rows_at-requires : goal.rows_at-requires
+rows_at-requires c =
     let t = c.args.self.now in
     record { sorted = spells_sorted t.head t.rows.now (steps_of t) (spells_of t); small = omega (arith, (spells_of t).head_fits.few_states) }
 

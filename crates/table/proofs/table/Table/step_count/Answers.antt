@@ -10,8 +10,8 @@ pub returns : goal.returns
 returns c =
     let t = c.args.self.now in
     let s = c.args.state in
-    let counted : c.count-passing.result ≡ degree_of t.rows.now s =
-    c.count-passing.ensures.value
-    ∙ part_degree t.rows.now s c.rows-of.result.before c.rows-of.result.rows.now c.rows-of.ensures
+    let counted : c.count_passing.result ≡ degree_of t.rows.now s =
+    c.count_passing.ensures.value
+    ∙ part_degree t.rows.now s c.rows_of.result.before c.rows_of.result.rows.now c.rows_of.ensures
     in
     record { value = counted; few = omega (arith, counted, (spells_shows t.head t.rows.now (steps_of t) (spells_of t)).degree s, (spells_of t).steps_fit.few s) }
