@@ -7,6 +7,7 @@ mod report;
 
 use crate::failure::Failure;
 use crate::report::survey_text;
+use std::process::ExitCode;
 use std::{env, fs};
 
 const HELP: &str = "goulvrezh: tells what a conversation can do
@@ -23,12 +24,12 @@ silent, send or receive; what follows a '#' is a comment.
 
 A fault ends the program with status 1 and one line that names the file and the place.";
 
-fn main(rt: HostRuntime) -> Result<(), Failure> {
+fn main(rt: HostRuntime) -> ExitCode {
     match run(&rt) {
-        Ok(()) => Ok(()),
+        Ok(()) => ExitCode::SUCCESS,
         Err(failure) => {
             let _ = eprintln!(rt; "goulvrezh: {failure}");
-            Err(failure)
+            ExitCode::FAILURE
         }
     }
 }

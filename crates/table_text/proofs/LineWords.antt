@@ -20,15 +20,3 @@ few_words words most l = sym (cond-true _ _ _ (le-leb (length (words_in words)) 
 
 pub many_words : (words : List (Bor (List ℕ))) (most : ℕ) → most < length words → Err LineEnd ≡ no_more (words_in words) most
 many_words words most l = sym (cond-false _ _ _ (lt-leb (length (words_in words)) most (omega (arith, length-map words (λ w. w.now)))))
-
--- a test that tells whether two words are equal is the byte by byte one
-pub same_test : (xs ys : List ℕ) (r : Bool) → Decides r (xs ≡ ys) → r ≡ bytes_eq xs ys
-same_test xs ys r d =
-    elim (cases_Bool r) [
-      | inl t ↦ t ∙ sym ((bytes_eq-Decides xs ys).1 (d.0 t))
-      | inr f ↦
-          elim (cases_Bool (bytes_eq xs ys)) [
-            | inl t ↦ absurd (both_ways r f (d.1 ((bytes_eq-Decides xs ys).0 t)))
-            | inr g ↦ f ∙ sym g
-          ]
-    ]

@@ -1,9 +1,6 @@
 use Rattle.std.proofs.Common.{ap, ◌∙◌}
 use Rattle.std.specs.Str.{bytes_eq}
-use Rattle.table_text.proofs.LineWords.{same_test}
 use Rattle.table_text.proofs.line.begins_with.Goals as goal
 
 pub returns : goal.returns
-returns c =
-    same_test c.word_at.result.now c.args.name.now c.eq.result c.eq.ensures
-    ∙ ap (λ w. bytes_eq w c.args.name.now) c.word_at.ensures
+returns c = c.eq.ensures ∙ ap (λ w. bytes_eq w c.args.name.now) c.word_at.ensures
