@@ -115,8 +115,8 @@ kind_from h row e =
       | inl zeroth ↦
           let p = and_parts _ _ (sym (cond-true (eqb row.kind 0) (eqb row.channel 0 && eqb row.value 0) _ zeroth) ∙ e) in
           silent (eqb-true row.kind 0 zeroth) (eqb-true row.channel 0 p.0) (eqb-true row.value 0 p.1)
-      | inr not-zeroth ↦
-          let e1 = sym (cond-false (eqb row.kind 0) (eqb row.channel 0 && eqb row.value 0) _ not-zeroth) ∙ e in
+      | inr not_zeroth ↦
+          let e1 = sym (cond-false (eqb row.kind 0) (eqb row.channel 0 && eqb row.value 0) _ not_zeroth) ∙ e in
           elim (cases_Bool (eqb row.kind 1)) [
             | inl first ↦
                 let p = and_parts _ _ (sym (cond-true (eqb row.kind 1) (ltb row.channel 64 && ltb row.value h.range) _ first) ∙ e1) in

@@ -1,5 +1,5 @@
 -- A table as a source.
-use Rattle.std.specs.Prelude.{◌≡◌, ℕ, zero, suc, ◌+◌, ◌<◌, ◌≤◌, max, Bool, cond, not, ◌&&◌, ◌||◌, List, [], length, get_or, Some, None, Option, ◌==◌, nat_lt, slice_index, slice_index_or}
+use Rattle.std.specs.Prelude.{◌≡◌, ℕ, zero, suc, ◌+◌, ◌<◌, ◌≤◌, max, Bool, cond, not, ◌&&◌, ◌||◌, List, [], length, slice_index_or, Some, None, Option, ◌==◌, nat_lt, slice_index}
 use Rattle.choose.specs.Choice.{count, chosen}
 use Rattle.source.specs.Labels.{is_receive}
 use Rattle.source.specs.Meaning.{Meaning}
@@ -19,7 +19,7 @@ begins row = not (row.kind == 2) || row.value == 0
 
 -- whether row i begins a step of the state s
 abbrev pub begins_at : List Row → ℕ → ℕ → Bool
-begins_at rows s i = begins (slice_index_or rows i no_row) && (get_or rows i no_row).from == s
+begins_at rows s i = begins (slice_index_or rows i no_row) && (slice_index_or rows i no_row).from == s
 
 -- the label that a row tells
 abbrev pub label_of : Row → Label
@@ -33,7 +33,7 @@ label_from rows (Some i) = label_of (slice_index_or rows i no_row)
 -- where the step that begins at a row leads at a value: a receive has a row for each
 abbrev pub landing_from : List Row → ℕ → ℕ → Option ℕ → ℕ
 landing_from rows root v None = root
-landing_from rows root v (Some i) = (get_or rows (i + cond ((get_or rows i no_row).kind == 2) v 0) no_row).to
+landing_from rows root v (Some i) = (slice_index_or rows (i + cond ((slice_index_or rows i no_row).kind == 2) v 0) no_row).to
 
 -- the largest of the numbers f 0 to f (n - 1), or 0
 abbrev pub largest : (ℕ → ℕ) → ℕ → ℕ
