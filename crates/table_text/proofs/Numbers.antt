@@ -1,10 +1,13 @@
 -- What `parse` reads of a word with no plus in front is the number that the word writes.
-use Rattle.std.proofs.Common.{◌≡◌, ℕ, ◌^◌, ◌<◌, true, ◌&&◌, ltb, List, length, get_or, Some, None, Ok, Err, Result, sym, ap, ◌∙◌, inl, inr, rules}
+use Rattle.std.proofs.Common.{◌≡◌, ℕ, ◌^◌, ◌<◌, arith, true, ◌&&◌, ltb, List, length, get_or, Some, None, Ok, Err, Option, Result, sym, ap, ◌∙◌, inl, inr, rules}
 use Rattle.std.proofs.lemmas.Str.Parse.{IsNumeralModel, numerals_by_fold, parse_plain}
+use Rattle.std.proofs.lemmas.Fmt.{digits_decimal, digits_value-decimal, decimal_nonempty}
+use Rattle.std.specs.Fmt.{decimal}
 use Rattle.std.proofs.lemmas.Bool.{cases_Bool, cond-true, cond-false, and_parts, and_from, ltb-true, lt-ltb}
 use Rattle.std.specs.Result.{OkIff, result_ok}
 use Rattle.std.specs.Str.Parse.{ParsesUnsigned}
 use Rattle.std.specs.Str.{all_ascii_digits}
+use Rattle.table_text.specs.Spelled.{ReadsNumber}
 use Rattle.table_text.specs.Words.{digits_after, number_of}
 
 own : IsNumeralModel (λ ds. all_ascii_digits ds ≡ true) (digits_after 0)
@@ -28,3 +31,13 @@ module _ (bits : ℕ) (word : List ℕ) where
 
   pub parsed_number : {E : Type 0} (r : Result ℕ E) → ParsesUnsigned bits 10 word r → (get_or word 0 0 ≡ 43 → ⊥) → result_ok r ≡ number_of bits word
   parsed_number r reads plain = converted r (parse_plain own bits word r reads plain)
+
+-- the digits of a number write it
+pub written_number : (bits n : ℕ) → n < 2 ^ 64 → n < 2 ^ bits → number_of bits (decimal n) ≡ Some n
+written_number bits n wide small =
+    let value : digits_after 0 (decimal n) ≡ n = digits_value-decimal own n wide in
+    test_from bits (decimal n) (digits_decimal own n wide) (decimal_nonempty n wide) (omega (arith, value, small)) ∙ ap Some value
+
+-- so what is read of digits is their number
+pub reads_number : (bits : ℕ) (word : List ℕ) (r : Option ℕ) → ((n : ℕ) → n < 2 ^ bits → n < 2 ^ 64) → r ≡ number_of bits word → ReadsNumber bits word r
+reads_number bits word r wide is n small same = is ∙ ap (number_of bits) same ∙ written_number bits n (wide n small) small

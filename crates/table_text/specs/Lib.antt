@@ -1,2 +1,4 @@
+pub mod LineNumbers
 pub mod Settings
+pub mod Spelled
 pub mod Words

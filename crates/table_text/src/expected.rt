@@ -1,4 +1,7 @@
 // What stands in a line of the text form, and what is said where it does not.
+ghost use Rattle.std.specs.Prelude.{◌≡◌};
+ghost use Rattle.table_text.specs.declared.expected.TextFault.TheVariants.{Memory};
+
 use std::alloc::{AllocError, AllocFailed};
 use std::fmt;
 
@@ -51,12 +54,16 @@ impl fmt::Display for TextFault {
 }
 
 impl From<AllocError> for TextFault {
+    ghost from_gives = { λ _ fault. fault ≡ Memory };
+
     fn from(_error: AllocError) -> TextFault {
         TextFault::Memory
     }
 }
 
 impl<T: Drop> From<AllocFailed<T>> for TextFault {
+    ghost from_gives = { λ _ fault. fault ≡ Memory };
+
     fn from(_error: AllocFailed<T>) -> TextFault {
         TextFault::Memory
     }

@@ -1,5 +1,6 @@
 // The words of one line.
 ghost use Rattle.std.specs.Str.{bytes_eq};
+ghost use Rattle.table_text.specs.Spelled.{ReadsNumber, ReadsRow};
 ghost use Rattle.table_text.specs.Words.{words_in, word_in, number_of, kind_of, or_expected, no_more, setting_of, row_of};
 ghost use Rattle.std.specs.Prelude.{◌≡◌};
 
@@ -23,7 +24,8 @@ fn word_at<'a>(words: &[&'a str], i: usize) -> &'a str
 
 // A number in digits, with no sign.
 fn large_number(word: &str) -> Option<u32>
-    ensures { result ≡ number_of 32 word.now }
+    ensures value { result ≡ number_of 32 word.now }
+    ensures spelled { ReadsNumber 32 word.now result }
 {
     if word.starts_with('+') {
         return None;
@@ -32,7 +34,8 @@ fn large_number(word: &str) -> Option<u32>
 }
 
 fn small_number(word: &str) -> Option<u8>
-    ensures { result ≡ number_of 8 word.now }
+    ensures value { result ≡ number_of 8 word.now }
+    ensures spelled { ReadsNumber 8 word.now result }
 {
     if word.starts_with('+') {
         return None;
@@ -123,6 +126,14 @@ pub(crate) fn small_setting(words: &[&str], name: &str, expected: Expected) -> R
 // A line of five words: the state that the row leaves, its kind, channel and value, and the state
 // that it leads to.
 pub(crate) fn row(words: &[&str]) -> Result<Row, Expected>
+    ensures value { result ≡ row_of (words_in words.now) }
+    ensures spelled { ReadsRow (words_in words.now) result }
+{
+    five_words(words)
+}
+
+// The same, without the law on words that spell a row.
+fn five_words(words: &[&str]) -> Result<Row, Expected>
     ensures { result ≡ row_of (words_in words.now) }
 {
     let from = large_at(words, 0, Expected::From)?;

@@ -1,5 +1,7 @@
 // A whole text.
-ghost use Rattle.std.specs.Prelude.{◌≡◌, IfOk, vec_len, OnOk};
+ghost use Rattle.std.specs.Prelude.{◌≡◌, IfErr, IfOk, OnOk, length, vec_len};
+ghost use Rattle.std.specs.Str.Lines.{lines};
+ghost use Rattle.table_text.specs.LineNumbers.{AddsAtMost, RisingLines, Tells, TellsALine};
 ghost use Rattle.table_text.specs.Settings.{line_at, told_row, next_place, next_head};
 ghost use Rattle.table_text.specs.Words.{words_in};
 
@@ -34,7 +36,9 @@ struct Reader {
 impl Reader {
     // One line that is not empty.
     fn read(&mut self, words: &[&str], line: usize) -> Result<(), TextFault>
-        ensures { OnOk result (vec_len self.old.table.lines ≡ vec_len self.old.table.rows → vec_len self.new.table.lines ≡ vec_len self.new.table.rows) }
+        ensures each { OnOk result (vec_len self.old.table.lines ≡ vec_len self.old.table.rows → vec_len self.new.table.lines ≡ vec_len self.new.table.rows) }
+        ensures lines { OnOk result (AddsAtMost line self.old.table.lines.items self.new.table.lines.items) }
+        ensures told { IfErr result (Tells line) }
     {
         match self.read_words(words) {
             Ok(None) => Ok(()),
@@ -76,7 +80,9 @@ impl Reader {
 
 // Reads a text, or tells the first line that is not as expected. Each row has its line.
 pub fn read_text(heap: Global, text: &str) -> Result<TextTable, TextFault>
-    ensures { IfOk result (λ t. vec_len t.lines ≡ vec_len t.rows) }
+    ensures each { IfOk result (λ t. vec_len t.lines ≡ vec_len t.rows) }
+    ensures rising { IfOk result (λ t. RisingLines (length (lines text.now)) t.lines.items) }
+    ensures told { IfErr result (TellsALine (length (lines text.now))) }
 {
     let head = Head {
         states: 0,
