@@ -1,4 +1,5 @@
 pub mod Faults
+pub mod Kinds
 pub mod Parts
 pub mod Reads
 pub mod Steps

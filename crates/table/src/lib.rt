@@ -3,6 +3,7 @@
 
 pub mod check;
 pub mod fault;
+pub mod kind;
 mod part;
 mod reading;
 pub mod row;
