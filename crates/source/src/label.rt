@@ -5,7 +5,7 @@ ghost use Rattle.source.specs.Labels.{same_label, value_count, label_text};
 use std::fmt;
 
 // A channel is a number from 0 to 63, and a value one below the source's range.
-#[derive(Clone, Copy, Debug)]
+#[derive(Clone, Copy, Debug, PartialEq, Eq)]
 pub enum Label {
     // a step that nobody else sees
     Silent,
@@ -32,23 +32,7 @@ pub fn same_label(a: Label, b: Label) -> bool
     ensures same { result ≡ true → a ≡ b }
     ensures told { a ≡ b → result ≡ true }
 {
-    match (a, b) {
-        (Label::Silent, Label::Silent) => true,
-        (
-            Label::Send { channel, value },
-            Label::Send {
-                channel: other_channel,
-                value: other_value,
-            },
-        ) => channel == other_channel && value == other_value,
-        (
-            Label::Receive { channel },
-            Label::Receive {
-                channel: other_channel,
-            },
-        ) => { channel == other_channel }
-        _ => false,
-    }
+    a == b
 }
 
 // How many values a step with this label has at a range.
@@ -57,10 +41,7 @@ pub fn value_count(range: u8, label: Label) -> u8
 {
     match label {
         Label::Silent => 1,
-        Label::Send {
-            channel: _,
-            value: _,
-        } => 1,
-        Label::Receive { channel: _ } => range,
+        Label::Send { .. } => 1,
+        Label::Receive { .. } => range,
     }
 }

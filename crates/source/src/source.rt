@@ -6,7 +6,8 @@ use crate::label::Label;
 
 // Seven questions. Each is answered on every input, and no answer changes a later one: all of
 // them are read off one meaning. The meaning is lawful, which every implementation proves at
-// `range`, the question that each caller asks.
+// `range`, the question that each caller asks. That is a clause and no law of the trait, since a
+// law's proof would have to stand in specs/, and with it all that is proved of a table.
 pub trait Source {
     ghost meaning: { Self → Meaning };
 

@@ -19,7 +19,7 @@ impl Still {
     pub fn new(range: u8) -> Self
         ensures { result.range ≡ range_or_one range }
     {
-        if range >= 1 && range <= 32 {
+        if (1..=32).contains(&range) {
             Still { range }
         } else {
             Still { range: 1 }

@@ -1,14 +1,11 @@
--- What is made of rows: a table of them where the check accepts them, and else the still source of range 1.
-use Rattle.std.proofs.Common.{◌≡◌, ℕ, true, ltb, List, [], length, IfOk, Ok, Err, Result, sym, refl, ◌∙◌, arith}
-use Rattle.std.proofs.lemmas.Bool.{cond_both}
-use Rattle.source.specs.Meaning.{still}
-use Rattle.source.specs.declared.label.Label.TheVariants.{Silent}
+-- What is known of the answer that the check gives: its number is the width, and what it refuses is no table.
+use Rattle.std.proofs.Common.{◌≡◌, ℕ, true, List, length, IfOk, Ok, Err, Result, sym, refl, ◌∙◌, arith}
 use Rattle.table.specs.declared.fault.Fault.{Fault}
 use Rattle.table.specs.declared.row.Head.{Head}
 use Rattle.table.specs.declared.row.Row.{Row}
 use Rattle.table.specs.Reads.{head_fits, read_table}
-use Rattle.table.specs.Steps.{HeadFits, Spells, WellFormed, Checked, verdict, steps_at}
-use Rattle.table.specs.Views.{degree_of, largest, table_meaning}
+use Rattle.table.specs.Steps.{HeadFits, WellFormed, Checked, verdict, steps_at}
+use Rattle.table.specs.Views.{degree_of, largest}
 use Rattle.table.proofs.Largest.{largest_same}
 use Rattle.table.proofs.Readings.{read_width, head_from_test}
 use Rattle.table.proofs.Shown.{spells_shows}
@@ -41,25 +38,3 @@ refused_unformed h rows fault so well =
     let same = checked_same h rows (Err fault) (Ok tt) so well in
     let z : ◌≡◌ {A = ℕ} 0 1 = cc in
     omega arith
-
--- the table that stands for them: one state, no row
-abbrev pub still_head : Head
-still_head = record { states = 1; range = 1; root = 0 }
-
-pub still_spells : Spells still_head [] []
-still_spells = record {
-  head_fits = omega arith;
-  steps_fit = record { each_fits = tt; in_order = tt; few = λ s. omega arith };
-  spelt = refl;
-}
-
-pub still_shown : table_meaning still_head [] ≡ still 1
-still_shown = λ i. record {
-  extent = 1;
-  root = 0;
-  range = 1;
-  width = 0;
-  degree = λ s. 0;
-  label = λ s k. Silent;
-  landing = λ s k v. cond_both (ltb v 1) 0 0 (λ (to : ℕ). to ≡ 0) (λ e. refl) (λ e. refl) i;
-}

@@ -1,31 +1,29 @@
 -- The rows of one state: they are found where the halving says, and of the whole table only they count.
-use Rattle.std.proofs.Common.{◌≡◌, ℕ, ◌+◌, ◌-◌, ◌<◌, ◌≤◌, Bool, true, false, ◌&&◌, ltb, leb, List, [], ◌++◌, length, get_or, take, drop, sym, refl, ap, ◌∙◌, inl, inr, append-nil, arith, length-append, length-drop, length-take}
-use Rattle.std.proofs.lemmas.List.{get_or-take, get_or-drop, take-append-drop, drop-drop}
-use Rattle.std.proofs.lemmas.Bool.{cases_lt, and_from, and_parts, eq-eqb, lt-ltb, ltb-false, leb-true, leb-false, le-leb, and_cases}
-use Rattle.choose.specs.Choice.{count, chosen, Rising, Split}
+use Rattle.std.proofs.Common.{◌≡◌, ℕ, ◌+◌, ◌-◌, ◌<◌, ◌≤◌, true, false, ◌&&◌, ltb, List, [], ◌++◌, length, get_or, take, drop, Option, sym, refl, ap, ◌∙◌, inl, inr, append-nil, arith, length-append, length-drop, length-take}
+use Rattle.std.proofs.lemmas.List.{get_or_default, get_or-take, get_or-drop, take-append-drop, drop-drop}
+use Rattle.std.proofs.lemmas.Bool.{cases_lt, eq-eqb, lt-ltb, ltb-true, ltb-false}
+use Rattle.std.proofs.Math.Bool.{and-true}
+use Rattle.choose.specs.Choice.{count, chosen}
 use Rattle.choose.proofs.Laws.{from_on, count_same, chosen_same}
 use Rattle.table.specs.declared.row.Row.{Row}
-use Rattle.table.specs.Parts.{from_reached, begins_in, Sorted, Splits, Part}
+use Rattle.std.specs.List.Sorted.{IsPartitionedBy, IsPartitionPoint}
+use Rattle.table.specs.Parts.{begins_in, Sorted, Splits, Part}
 use Rattle.table.specs.Views.{no_row, begins, step_row, degree_of}
 use Rattle.choose.proofs.Elements.{test_at, counted, counted_part, picked_part}
 use Rattle.table.proofs.StepRows.{begins_of, none_begun}
 
--- in sorted rows, those that leave a state not below `from` are the last ones
-pub reached_rising : (rows : List Row) (from : ℕ) → Sorted rows → Rising (from_reached rows from) (length rows)
-reached_rising rows from sorted i j l m pass =
-    let parts = and_parts (ltb i (length rows)) (leb from (get_or rows i no_row).from) pass in
-    let reached = leb-true from (get_or rows i no_row).from parts.1 in
-    and_from (ltb j (length rows)) (leb from (get_or rows j no_row).from) (lt-ltb j (length rows) m) (le-leb from (get_or rows j no_row).from (omega (arith, sorted i j l m)))
+-- in sorted rows, those that leave a state below `from` are the first ones
+pub below_partitioned : (rows : List Row) (from : ℕ) → Sorted rows → IsPartitionedBy (λ row. ltb row.from from) rows
+below_partitioned rows from sorted i j d l m below =
+    let first = ap (λ (row : Row). row.from) (get_or_default rows i d no_row (omega arith)) in
+    let last = ap (λ (row : Row). row.from) (get_or_default rows j d no_row m) in
+    lt-ltb (get_or rows i d).from from (omega (arith, first, last, sorted i j l m, ltb-true (get_or rows j d).from from below))
 
-pub split_splits : (rows : List Row) (from n : ℕ) → Split (from_reached rows from) (length rows) n → Splits rows from n
-split_splits rows from n split = record {
-  within = split.within;
-  below = λ i l.
-      elim (and_cases (ltb i (length rows)) (leb from (get_or rows i no_row).from) (split.fails i l)) [
-        | inl past ↦ absurd (omega (arith, ltb-false i (length rows) past, split.within))
-        | inr fails ↦ leb-false from (get_or rows i no_row).from fails
-      ];
-  reached = λ i l m. leb-true from (get_or rows i no_row).from (and_parts (ltb i (length rows)) (leb from (get_or rows i no_row).from) (split.passes i l m)).1;
+pub partition_splits : (rows : List Row) (from n : ℕ) → n ≤ length rows → IsPartitionPoint (λ row. ltb row.from from ≡ true) (λ row. ltb row.from from ≡ false) rows n → Splits rows from n
+partition_splits rows from n within split = record {
+  within = within;
+  below = λ i l. ltb-true (get_or rows i no_row).from from (split.0 i no_row (omega arith) l);
+  reached = λ i l m. ltb-false (get_or rows i no_row).from from (split.1 i no_row l m);
 }
 
 -- the rows between two places
@@ -75,10 +73,6 @@ part_none rows s below = record {
 }
 
 -- of the whole table, only the rows of the state s begin steps of it
-and_true : (b : Bool) → b ≡ (b && true)
-and_true true = refl
-and_true false = refl
-
 module _ (rows : List Row) (s before : ℕ) (part : List Row) (here : Part rows s before part) where
   none_in_front : counted (begins_of s) no_row here.front ≡ 0
   none_in_front = none_begun s here.front (λ i l e. omega (arith, here.none_in_front i l))
@@ -89,7 +83,7 @@ module _ (rows : List Row) (s before : ℕ) (part : List Row) (here : Part rows 
   tests_agree : (i : ℕ) → i < length part → begins_in part i ≡ begins_of s (get_or part i no_row)
   tests_agree i l =
       let row = get_or part i no_row in
-      ap (λ b. b && begins row) (lt-ltb i (length part) l) ∙ and_true (begins row) ∙ ap (λ b. begins row && b) (sym (eq-eqb row.from s (here.all_here i l)))
+      sym (and-true (begins row)) ∙ ap (λ b. begins row && b) (sym (eq-eqb row.from s (here.all_here i l)))
 
   pub part_degree : count (begins_in part) (length part) ≡ degree_of rows s
   part_degree =
@@ -97,12 +91,15 @@ module _ (rows : List Row) (s before : ℕ) (part : List Row) (here : Part rows 
       ∙ sym (counted_part (begins_of s) no_row here.front part here.behind none_in_front none_behind)
       ∙ ap (λ r. degree_of r s) (sym here.whole)
 
-  pub part_row : (k : ℕ) → step_row rows s k ≡ from_on before (chosen (begins_in part) (length part) k)
+  part_row : (k : ℕ) → step_row rows s k ≡ from_on before (chosen (begins_in part) (length part) k)
   part_row k =
       ap (λ r. step_row r s k) here.whole
       ∙ picked_part (begins_of s) no_row here.front part here.behind k none_in_front none_behind
       ∙ ap (λ o. from_on (length here.front) o) (sym (chosen_same (begins_in part) (test_at (begins_of s) no_row part) (length part) k tests_agree))
       ∙ ap (λ n. from_on n (chosen (begins_in part) (length part) k)) here.in_front
+
+  pub part_chosen : (k : ℕ) (r : Option ℕ) → r ≡ chosen (begins_in part) (length part) k → from_on before r ≡ step_row rows s k
+  part_chosen k r e = ap (from_on before) e ∙ sym (part_row k)
 
   pub part_within : before + length part ≤ length rows
   part_within = omega (arith, ap length here.whole, length-append here.front (part ++ here.behind), length-append part here.behind, here.in_front)

@@ -3,6 +3,7 @@ use Rattle.std.proofs.Common.{◌≡◌, ℕ, true, false, ltb, leb, List, [], �
 use mathlib.Core.Bool.{Bool-set}
 use mathlib.Core.Logic.{∥∥₁_elim}
 use Rattle.std.proofs.lemmas.Bool.{ltb-true, leb-true, lt-ltb, le-leb, and_parts, and_from, both_ways}
+use Rattle.std.proofs.lemmas.Option.{none-some, same_Some}
 use Rattle.table.specs.declared.fault.Fault.{Fault}
 use Rattle.table.specs.declared.fault.Fault.TheVariants.{Head as BadHead, Row as BadRow}
 use Rattle.table.specs.declared.reading.Reading.{Reading}
@@ -12,7 +13,7 @@ use Rattle.table.specs.Reads.{unread, head_fits, follow, read_table}
 use Rattle.table.specs.Steps.{Step, HeadFits, Spells, WellFormed, steps_at}
 use Rattle.table.specs.Views.{largest}
 use Rattle.table.proofs.Largest.{largest_is}
-use Rattle.table.proofs.Standing.{some_same, run, run_none, run_append, closed_none, closed_fit}
+use Rattle.table.proofs.Standing.{run, run_none, run_append, closed_none, closed_fit}
 use Rattle.table.proofs.ReadOn.{Says, says_table}
 use Rattle.table.proofs.Complete.{run_spelt}
 use Rattle.table.proofs.Sound.{Stands, stands_run}
@@ -50,9 +51,9 @@ read_width h rows w f e =
     let s : Says h unread 0 rows (Ok w) = subst (λ a. Says h unread 0 rows a) e (says_table h rows) in
     found s.0 s.2 s.3 (stands h rows s.0 f s.1)
   where
-    found : (after : Reading) → after.next ≡ 0 → w ≡ after.widest → Stands h rows after → (steps : List Step) × Spells h rows steps × (w ≡ largest (λ s. length (steps_at s steps)) h.states)
+    found : (after : Reading) → after.receive ≡ None → w ≡ after.widest → Stands h rows after → (steps : List Step) × Spells h rows steps × (w ≡ largest (λ s. length (steps_at s steps)) h.states)
     found after none width (whole done spelt c) = (done, record { head_fits = f; steps_fit = closed_fit h done after c; spelt = spelt }, width ∙ largest_is (λ s. length (steps_at s done)) h.states after.widest c.above c.met)
-    found after none width (cut done before from channel tos p less is) = absurd (omega (arith, p.some, ap (λ x. x.next) is))
+    found after none width (cut done before from channel tos p less is) = absurd (none-some _ (sym none ∙ ap (λ x. x.receive) is))
 
 -- a row that can't follow those before it can't stand there in a well-formed table
 pub stuck_refused : (h : Head) (front : List Row) (row : Row) (rest : List Row) (after : Reading) → run h unread front ≡ Some after → follow h after row ≡ None → WellFormed h (front ++ row ∷ rest) → ⊥
@@ -63,11 +64,11 @@ stuck_refused h front row rest after reads stuck t =
     omega arith
 
 -- nor can a receive be cut short at its end
-pub cut_refused : (h : Head) (rows : List Row) (after : Reading) → run h unread rows ≡ Some after → (after.next ≡ 0 → ⊥) → WellFormed h rows → ⊥
+pub cut_refused : (h : Head) (rows : List Row) (after : Reading) → run h unread rows ≡ Some after → (after.receive ≡ None → ⊥) → WellFormed h rows → ⊥
 cut_refused h rows after reads within t =
     let ends = run_spelt h rows t.0 t.1 in
-    let same : after ≡ ends.0 = some_same after ends.0 (sym reads ∙ ends.1) in
-    within (ap (λ x. x.next) same ∙ ends.2.still)
+    let same : after ≡ ends.0 = same_Some after ends.0 (sym reads ∙ ends.1) in
+    within (ap (λ x. x.receive) same ∙ ends.2.still)
 
 -- so a table that is refused is not well-formed
 pub read_refused : (h : Head) (rows : List Row) (f : Fault) → read_table h rows ≡ Err f → WellFormed h rows → ⊥

@@ -1,7 +1,9 @@
 -- How a reading stands to the steps that were read.
 use Rattle.std.proofs.Common.{◌≡◌, ℕ, suc, ◌<◌, ◌≤◌, max, cond, eqb, ltb, ◌⊎◌, List, [], ◌∷◌, ◌++◌, length, Some, None, Option, sym, refl, ap, ◌∙◌, inl, inr, arith}
 use Rattle.std.proofs.lemmas.Bool.{cases_eq, cases_lt, eq-eqb, ne_eqb, cond-true, cond-false}
+use Rattle.std.proofs.lemmas.Option.{same_Some}
 use Rattle.table.specs.declared.reading.Reading.{Reading}
+use Rattle.table.specs.declared.reading.Receiving.{Receiving}
 use Rattle.table.specs.declared.row.Head.{Head}
 use Rattle.table.specs.declared.row.Row.{Row}
 use Rattle.table.specs.Reads.{unread, follow}
@@ -20,12 +22,9 @@ run_some h r after row rows e = ap (λ (o : Option Reading). elim o as (λ _. Op
 pub run_none : (h : Head) (r : Reading) (row : Row) (rows : List Row) → follow h r row ≡ None → run h r (row ∷ rows) ≡ None
 run_none h r row rows e = ap (λ (o : Option Reading). elim o as (λ _. Option Reading) [ None ↦ None | Some a ↦ run h a rows ]) e
 
-pub some_same : {A : Type 0} (x y : A) → Some x ≡ Some y → x ≡ y
-some_same x y e = cc
-
 -- rows in two parts: the second is read from where the first has led
 pub run_append : (h : Head) (front rest : List Row) (r after : Reading) → run h r front ≡ Some after → run h r (front ++ rest) ≡ run h after rest
-run_append h [] rest r after e = ap (λ x. run h x rest) (some_same r after e)
+run_append h [] rest r after e = ap (λ x. run h x rest) (same_Some r after e)
 run_append h (row ∷ front) rest r after e = go (follow h r row) refl (λ next. run_append h front rest next after)
   where
     go : (o : Option Reading) → follow h r row ≡ o → ((next : Reading) → run h next front ≡ Some after → run h next (front ++ rest) ≡ run h after rest) → run h r (row ∷ (front ++ rest)) ≡ run h after rest
@@ -36,24 +35,27 @@ run_append h (row ∷ front) rest r after e = go (follow h r row) refl (λ next.
 abbrev pub so_far : Reading → ℕ → ℕ
 so_far r s = cond (eqb s r.from) r.steps 0
 
--- the reading after one more step has begun
-abbrev pub opened : Reading → ℕ → ℕ → ℕ → Reading
-opened r from channel next = record {
+-- the reading after one more step has begun, with what is left of it to be read
+abbrev pub opened : Reading → ℕ → Option Receiving → Reading
+opened r from receive = record {
   from = from;
   steps = suc (so_far r from);
-  channel = channel;
-  next = next;
+  receive = receive;
   widest = max r.widest (suc (so_far r from));
 }
 
--- the value that a receive must go on with where its next one would be v: 0 past the last
-abbrev pub up_to : Head → ℕ → ℕ
-up_to h v = cond (ltb v h.range) v 0
+-- a receive on a channel that goes on with the value v
+abbrev pub going_on : ℕ → ℕ → Option Receiving
+going_on channel v = Some (record { channel = channel; next = v })
+
+-- the same, where v may be past the last value: then nothing is left
+abbrev pub up_to : Head → ℕ → ℕ → Option Receiving
+up_to h channel v = cond (ltb v h.range) (going_on channel v) None
 
 -- The reading after whole steps that fit: it is at the largest state that they leave, it has counted the
 -- steps of that one, and its width is the most that leave one state.
 pub record Closed (h : Head) (done : List Step) (r : Reading) : Type 0 where
-  pub still : r.next ≡ 0
+  pub still : r.receive ≡ None
   pub fits : Each (StepFits h) done
   pub ordered : InOrder done
   pub few : (s : ℕ) → length (steps_at s done) ≤ 64
@@ -88,8 +90,8 @@ so_far_is h done r s c l =
     ]
 
 -- one more step that fits, at the state being read or a later one, of which few have begun
-pub closed_push : (h : Head) (done : List Step) (r : Reading) (step : Step) (channel : ℕ) → Closed h done r → StepFits h step → r.from ≤ step.from → so_far r step.from < 64 → Closed h (done ++ step ∷ []) (opened r step.from channel 0)
-closed_push h done r step channel c f l room =
+pub closed_push : (h : Head) (done : List Step) (r : Reading) (step : Step) → Closed h done r → StepFits h step → r.from ≤ step.from → so_far r step.from < 64 → Closed h (done ++ step ∷ []) (opened r step.from None)
+closed_push h done r step c f l room =
     let from = step.from in
     let soon : so_far r from ≡ length (steps_at from done) = so_far_is h done r from c l in
     let here = steps_at_push from done step refl in

@@ -1,17 +1,17 @@
 -- What the check answers is so, and nothing else is.
-use Rattle.std.proofs.Common.{◌≡◌, ℕ, zero, suc, ◌<◌, ◌≤◌, false, List, [], ◌∷◌, ◌++◌, length, take, drop, Ok, Err, Result, sym, refl, ap, ◌∙◌, subst, inl, inr, append_assoc, arith, length-append}
+use Rattle.std.proofs.Common.{◌≡◌, ℕ, zero, suc, ◌<◌, ◌≤◌, List, [], ◌∷◌, ◌++◌, length, take, drop, Ok, Err, Result, sym, refl, ap, ◌∙◌, subst, inl, inr, append_assoc, arith, length-append}
 use Rattle.std.proofs.lemmas.List.{append-nil, take-append-drop, take-take, take_at}
-use Rattle.std.proofs.lemmas.Bool.{cases_order, both_ways}
+use Rattle.std.proofs.lemmas.Bool.{cases_order}
+use Rattle.std.proofs.lemmas.Option.{same_Some}
 use Rattle.table.specs.declared.fault.Fault.{Fault}
 use Rattle.table.specs.declared.fault.Fault.TheVariants.{Head as BadHead, Row as BadRow}
 use Rattle.table.specs.declared.row.Head.{Head}
 use Rattle.table.specs.declared.row.Row.{Row}
-use Rattle.table.specs.Reads.{unread, head_fits, read_table}
+use Rattle.table.specs.Reads.{unread, read_table}
 use Rattle.table.specs.Steps.{HeadFits, WellFormed, Mendable, RowFault, Checked}
-use Rattle.table.proofs.Standing.{some_same}
 use Rattle.table.proofs.Sound.{stands_mendable}
 use Rattle.table.proofs.ReadOn.{Says, Stops, Ends, says_table}
-use Rattle.table.proofs.Readings.{test_from_head, stands, read_width, stuck_refused, cut_refused}
+use Rattle.table.proofs.Readings.{stands, read_width, stuck_refused, cut_refused}
 
 -- a well-formed table can be continued, by nothing; and a front of what can be continued can be too
 pub mendable_whole : (h : Head) (rows : List Row) → WellFormed h rows → Mendable h rows
@@ -45,7 +45,7 @@ fault_stops h rows m f s =
 
 -- and so is the last one within a receive
 fault_ends : (h : Head) (rows : List Row) (m : ℕ) → HeadFits h → Ends h unread 0 rows m → RowFault h rows m
-fault_ends h [] m f s = absurd (s.within (sym (ap (λ x. x.next) (some_same unread s.after s.reads))))
+fault_ends h [] m f s = absurd (s.within (sym (ap (λ x. x.receive) (same_Some unread s.after s.reads))))
 fault_ends h (row ∷ rest) m f s =
     let rows = row ∷ rest in
     let i = length rest in
@@ -53,9 +53,6 @@ fault_ends h (row ∷ rest) m f s =
     let fault : RowFault h rows (suc i) = (omega arith, mendable_take h rows i mend, inr (refl, mend, cut_refused h rows s.after s.reads s.within)) in
     let number : m ≡ suc i = omega (arith, s.told) in
     subst (λ n. RowFault h rows n) (sym number) fault
-
-pub checked_head : (h : Head) (rows : List Row) → head_fits h ≡ false → Checked h rows (Err BadHead)
-checked_head h rows e f = both_ways (head_fits h) e (test_from_head h f)
 
 pub checked_ok : (h : Head) (rows : List Row) (w : ℕ) → HeadFits h → read_table h rows ≡ Ok w → Checked h rows (Ok tt)
 checked_ok h rows w f e = let found = read_width h rows w f e in (found.0, found.1)

@@ -11,7 +11,8 @@ pub enum Fault {
 }
 
 impl Fault {
-    // The number by which the refusal goes.
+    // The number by which the refusal goes. A number by the project's rule: scripts and people know
+    // refusals by it.
     pub fn number(&self) -> u8
         ensures { result ≡ refusal_number self.now }
     {
@@ -21,7 +22,8 @@ impl Fault {
         }
     }
 
-    // The row that is told, counted from 1, or 0 where none is.
+    // The row that is told, counted from 1, or 0 where none is. No `Option`, by the same rule: 0 is
+    // what is told of a bad head.
     pub fn row(&self) -> usize
         ensures { result ≡ told self.now }
     {

@@ -7,6 +7,5 @@ pub mod kind;
 mod part;
 mod reading;
 pub mod row;
-mod row_tests;
 pub mod table;
 pub mod view;

@@ -3,8 +3,6 @@ ghost use Rattle.std.specs.Prelude.{◌<◌};
 ghost use Rattle.table.specs.Parts.{Part, Sorted, Splits};
 
 use crate::row::Row;
-use crate::row_tests::FromReached;
-use choose::split_passing;
 
 // The rows that leave one state, and how many rows of the table stand before them.
 #[derive(Clone, Copy)]
@@ -18,8 +16,7 @@ fn rows_below(rows: &[Row], from: u32) -> usize
     requires { Sorted rows.now }
     ensures { Splits rows.now from result }
 {
-    let test = FromReached { rows, from };
-    split_passing(&test, rows.len())
+    rows.partition_point(|row| row.from < from)
 }
 
 // The rows that leave a state.

@@ -1,122 +1,117 @@
 // Reading a table row by row.
-ghost use Rattle.std.specs.Prelude.{◌≡◌, true};
-ghost use Rattle.table.specs.Reads.{head_fits, may_begin, begun, next_value, begin_step, continue_receive, follow, read_table};
+ghost use Rattle.std.specs.Prelude.{◌≡◌};
+ghost use Rattle.table.specs.Reads.{head_fits, may_begin, begun, receive_after, begin_step, continue_receive, follow, read_table};
 
 use crate::fault::Fault;
+use crate::kind::Kind;
 use crate::row::{Head, Row};
 
 // The most steps of one state.
 const MOST_STEPS: u32 = 64;
 
+impl Head {
+    // Whether the number of states, the range and the root are within their bounds.
+    pub(crate) fn fits(self) -> bool
+        ensures { result ≡ head_fits self }
+    {
+        (1..=65536).contains(&self.states)
+            && (1..=32).contains(&self.range)
+            && self.root < self.states
+    }
+}
+
+impl Row {
+    // Whether the row may begin a step.
+    fn may_begin(self, head: Head) -> bool
+        ensures { result ≡ may_begin head self }
+    {
+        match Kind::try_from(self.kind) {
+            Ok(Kind::Silent) => self.channel == 0 && self.value == 0,
+            Ok(Kind::Send) => self.channel < 64 && self.value < head.range,
+            Ok(Kind::Receive) => self.channel < 64 && self.value == 0,
+            Err(_) => false,
+        }
+    }
+}
+
+// A receive that is being read: its channel, and the value that its next row must have.
+#[derive(Clone, Copy)]
+struct Receiving {
+    channel: u8,
+    next: u8,
+}
+
+impl Receiving {
+    // What is left of a receive after its row for a value: nothing where that was the last.
+    fn after(head: Head, channel: u8, value: u8) -> Option<Receiving>
+        ensures { result ≡ receive_after head channel value }
+    {
+        let next = value.checked_add(1).filter(|&next| next < head.range)?;
+        Some(Receiving { channel, next })
+    }
+}
+
 // How far a table has been read.
 #[derive(Clone, Copy)]
-pub(crate) struct Reading {
+struct Reading {
     // the state whose steps are being read, and how many of them have begun
-    pub(crate) from: u32,
-    pub(crate) steps: u32,
-    // the channel of the receive that is being read, and the value that its next row must have;
-    // the value is 0 where no receive is being read
-    pub(crate) channel: u8,
-    pub(crate) next: u8,
+    from: u32,
+    steps: u32,
+    receive: Option<Receiving>,
     // the most steps that have begun at one state
-    pub(crate) widest: u32,
+    widest: u32,
 }
 
-// Whether the number of states, the range and the root are within their bounds.
-pub(crate) fn head_fits(head: Head) -> bool
-    ensures { result ≡ head_fits head }
-{
-    head.states >= 1
-        && head.states <= 65536
-        && head.range >= 1
-        && head.range <= 32
-        && head.root < head.states
-}
-
-// Whether a row may begin a step.
-fn may_begin(head: Head, row: Row) -> bool
-    ensures { result ≡ may_begin head row }
-{
-    match row.kind {
-        0 => row.channel == 0 && row.value == 0,
-        1 => row.channel < 64 && row.value < head.range,
-        2 => row.channel < 64 && row.value == 0,
-        _ => false,
-    }
-}
-
-// The value that the next row of a receive must have: 0 where this one was the last.
-fn next_value(head: Head, value: u8) -> u8
-    ensures { result ≡ next_value head value }
-{
-    if value < 255 && value + 1 < head.range {
-        value + 1
-    } else {
-        0
-    }
-}
-
-// A row that begins a step.
-fn begin_step(head: Head, before: Reading, row: Row) -> Option<Reading>
-    ensures { result ≡ begin_step head before row }
-{
-    let begun = if row.from == before.from {
-        before.steps
-    } else {
-        0
-    };
-    if row.from < before.from || begun >= MOST_STEPS || !may_begin(head, row) {
-        return None;
-    }
-    let steps = begun + 1;
-    Some(Reading {
-        from: row.from,
-        steps,
-        channel: row.channel,
-        next: if row.kind == 2 {
-            next_value(head, 0)
-        } else {
-            0
-        },
-        widest: if before.widest < steps {
-            steps
-        } else {
-            before.widest
-        },
-    })
-}
-
-// A row within a receive.
-fn continue_receive(head: Head, before: Reading, row: Row) -> Option<Reading>
-    ensures { result ≡ continue_receive head before row }
-{
-    if row.from != before.from
-        || row.kind != 2
-        || row.channel != before.channel
-        || row.value != before.next
+impl Reading {
+    // The reading after a row that begins a step.
+    fn begin_step(self, head: Head, row: Row) -> Option<Reading>
+        ensures { result ≡ begin_step head self row }
     {
-        return None;
+        let begun = if row.from == self.from { self.steps } else { 0 };
+        if row.from < self.from || begun >= MOST_STEPS || !row.may_begin(head) {
+            return None;
+        }
+        let steps = begun + 1;
+        Some(Reading {
+            from: row.from,
+            steps,
+            receive: if row.is_receive() {
+                Receiving::after(head, row.channel, 0)
+            } else {
+                None
+            },
+            widest: self.widest.max(steps),
+        })
     }
-    Some(Reading {
-        from: before.from,
-        steps: before.steps,
-        channel: before.channel,
-        next: next_value(head, before.next),
-        widest: before.widest,
-    })
-}
 
-// The next row, if it can follow what has been read.
-fn follow(head: Head, before: Reading, row: Row) -> Option<Reading>
-    ensures { result ≡ follow head before row }
-{
-    if row.from >= head.states || row.to >= head.states {
-        return None;
+    // The reading after a row within a receive.
+    fn continue_receive(self, head: Head, receive: Receiving, row: Row) -> Option<Reading>
+        ensures { result ≡ continue_receive head self receive row }
+    {
+        if row.from != self.from
+            || !row.is_receive()
+            || row.channel != receive.channel
+            || row.value != receive.next
+        {
+            return None;
+        }
+        Some(Reading {
+            receive: Receiving::after(head, receive.channel, receive.next),
+            ..self
+        })
     }
-    if before.next == 0 {
-        begin_step(head, before, row)
-    } else {
-        continue_receive(head, before, row)
+
+    // The reading after the next row, if that can follow.
+    fn follow(self, head: Head, row: Row) -> Option<Reading>
+        ensures { result ≡ follow head self row }
+    {
+        if row.from >= head.states || row.to >= head.states {
+            return None;
+        }
+        match self.receive {
+            None => self.begin_step(head, row),
+            Some(receive) => self.continue_receive(head, receive, row),
+        }
     }
 }
 
@@ -127,19 +122,14 @@ pub(crate) fn read_table(head: Head, rows: &[Row]) -> Result<u32, Fault>
     let mut reading = Reading {
         from: 0,
         steps: 0,
-        channel: 0,
-        next: 0,
+        receive: None,
         widest: 0,
     };
     for (i, row) in rows.iter().enumerate() {
-        match follow(head, reading, *row) {
-            Some(after) => reading = after,
-            None => return Err(Fault::Row(i + 1)),
-        }
+        reading = reading.follow(head, *row).ok_or(Fault::Row(i + 1))?;
     }
-    if reading.next == 0 {
-        Ok(reading.widest)
-    } else {
-        Err(Fault::Row(rows.len()))
+    match reading.receive {
+        None => Ok(reading.widest),
+        Some(_) => Err(Fault::Row(rows.len())),
     }
 }

@@ -1,14 +1,13 @@
 // A table as a source.
-ghost use Rattle.std.specs.Prelude.{◌≡◌, ◌≤◌, List, if◌then◌else◌, nat_eq};
+ghost use Rattle.std.specs.Prelude.{◌≡◌, ◌≤◌, List};
 ghost use Rattle.source.specs.Meaning.{still, Lawful};
 ghost use Rattle.table.specs.Parts.{Part};
 ghost use Rattle.table.specs.Steps.{Step, Spells, WellFormed};
-ghost use Rattle.table.specs.Views.{table_meaning, largest, degree_of, label_of, step_row, Shows};
+ghost use Rattle.table.specs.Views.{table_meaning, largest, degree_of, step_row, Shows};
 
 use crate::check::measure;
 use crate::part::{StateRows, rows_at};
 use crate::row::{Head, Row};
-use crate::row_tests::BeginsStep;
 use crate::table::Table;
 use choose::{choose_passing, count_passing};
 use source::label::Label;
@@ -79,44 +78,17 @@ impl<'a> Table<'a> {
         ensures few { result ≤ 64 }
     {
         let rows = self.rows_of(state).rows;
-        let begins = BeginsStep { rows };
-        count_passing(&begins, rows.len())
+        count_passing(|&i| rows[i].begins_step(), rows.len())
     }
 
     // The row of the table where a step begins.
     fn step_row(&self, state: u32, step: u32) -> Option<usize>
         ensures { result ≡ step_row self.now.rows.now state step }
     {
-        let here = self.rows_of(state);
-        let begins = BeginsStep { rows: here.rows };
-        match choose_passing(&begins, here.rows.len(), step as usize) {
-            Some(i) => Some(here.before + i),
-            None => None,
-        }
+        let StateRows { before, rows } = self.rows_of(state);
+        let i = choose_passing(|&i| rows[i].begins_step(), rows.len(), step as usize)?;
+        Some(before + i)
     }
-}
-
-// The label that a row tells.
-fn label_of(row: Row) -> Label
-    ensures { result ≡ label_of row }
-{
-    match row.kind {
-        0 => Label::Silent,
-        1 => Label::Send {
-            channel: row.channel,
-            value: row.value,
-        },
-        _ => Label::Receive {
-            channel: row.channel,
-        },
-    }
-}
-
-// How far behind a step's first row its row for a value stands: a receive has a row for each.
-fn rows_on(first: Row, value: u8) -> usize
-    ensures { result ≡ (if nat_eq first.kind 2 then value else 0) }
-{
-    if first.kind == 2 { value as usize } else { 0 }
 }
 
 impl<'a> Source for Table<'a> {
@@ -144,7 +116,7 @@ impl<'a> Source for Table<'a> {
 
     fn label(&self, state: u32, step: u32) -> Label {
         match self.step_row(state, step) {
-            Some(i) => label_of(self.rows[i]),
+            Some(i) => self.rows[i].label(),
             None => Label::Silent,
         }
     }
@@ -154,7 +126,7 @@ impl<'a> Source for Table<'a> {
             return self.head.root;
         }
         match self.step_row(state, step) {
-            Some(i) => self.rows[i + rows_on(self.rows[i], value)].to,
+            Some(i) => self.rows[i + self.rows[i].rows_on(value)].to,
             None => self.head.root,
         }
     }

@@ -1,23 +1,16 @@
-use Rattle.std.proofs.Common.{◌≡◌, sym, ap, ◌∙◌, arith}
-use Rattle.choose.specs.Choice.{count}
-use Rattle.choose.proofs.Laws.{count_at_most, count_more, count_no_more}
+use Rattle.std.proofs.Common.{sym, ap, subst, arith, rules}
+use Rattle.std.proofs.lemmas.Iterator.{serves_from_Range}
+use Rattle.choose.proofs.Passing.{counted_filter, begins_filter}
 use Rattle.choose.proofs.count_passing.Goals as goal
-use Rattle.choose.proofs.count_passing.Goals.{then-passes, else-passes}
 
-pub overflow_add-passed : goal.overflow_add-passed
-overflow_add-passed g c = omega (arith, count_at_most (g.P.Test.holds c.args.test.now) c.loop-i.i)
+pub count-requires-clause-can : goal.count-requires-clause-can
+count-requires-clause-can g c =
+    let end = ap (λ r. r.end) c.filter.ensures.source in
+    let test = c.filter.ensures.closure in
+    (tt, tt, serves_from_Range (λ x q k. g.met.P.Fn.1.step_stays _ _ _ _ k.1.called) (λ x a b y e. subst (λ f. g.P.Fn.pre f (y, tt)) (sym test) (c.requires y (omega (arith, e, end)))))
 
-pub loop-i-preserved : goal.loop-i-preserved
-loop-i-preserved g c =
-    let p = g.P.Test.holds c.args.test.now in
-    elim c.if-passes.branch [
-      | then-passes w ↦ omega (arith, w.passed-is, c.loop-i.invariant, count_more p c.loop-i.i (sym w.if-passes.ensures))
-      | else-passes w ↦ omega (arith, w.passed-is, c.loop-i.invariant, count_no_more p c.loop-i.i (sym w.if-passes.ensures))
-    ]
-
-pub returns : goal.returns
-returns g c =
-    let p = g.P.Test.holds c.args.test.now in
-    let end : c.loop-i.i ≡ c.args.bound = omega arith in
-    let counted = c.loop-i.invariant ∙ ap (count p) end in
-    record { value = counted; within = omega (arith, count_at_most p c.args.bound, counted) }
+pub returns-clause-value : goal.returns-clause-value
+returns-clause-value g c = λ holds d.
+    let begins = begins_filter g.P.Fn _ g.met.P.Fn.1.step_stays g.met.P.FnMut.1.post_iff c.args.test holds c.args.bound d c.filter.result c.filter.ensures.closure c.filter.ensures.source in
+    let counted = counted_filter g.P.Fn _ g.met.P.Fn.1.step_stays g.met.P.FnMut.1.post_iff c.args.test holds c.args.bound d c.filter.result c.count.ensures.ran.0 begins c.count.ensures.ran.1 in
+    search rules

@@ -1,19 +1,18 @@
-use Rattle.std.proofs.Common.{sym, subst, arith}
-use Rattle.choose.specs.Choice.{Chosen, First}
-use Rattle.choose.proofs.Laws.{count_none, chosen_at, chosen_none, chosen_first}
+use Rattle.std.proofs.Common.{sym, subst, arith, rules}
+use Rattle.std.proofs.lemmas.Iterator.{serves_from_Range}
+use Rattle.choose.specs.Choice.{First}
+use Rattle.choose.proofs.Laws.{chosen_first}
+use Rattle.choose.proofs.Passing.{chosen_find}
 use Rattle.choose.proofs.first_passing.Goals as goal
 
-pub returns-then-passes : goal.returns-then-passes
-returns-then-passes g c =
-    let p = g.P.Test.holds c.args.test.now in
-    let n = c.args.bound in
-    let here : Chosen p n 0 c.loop-least.least = record { below = c.loop-least-test.true; passes = sym c.if-passes.ensures; after = count_none p c.loop-least.least c.loop-least.invariant } in
-    let e = chosen_at p n 0 c.loop-least.least here in
-    record { value = sym e; first = subst (λ r. First p n r) e (chosen_first p n) }
+pub find-requires-clause-callable : goal.find-requires-clause-callable
+find-requires-clause-callable g c =
+    serves_from_Range (λ x q k. g.met.P.Fn.1.step_stays _ _ _ _ k.called) (λ x a b y e. c.requires y (omega (arith, e)))
 
-pub returns : goal.returns
-returns g c =
-    let p = g.P.Test.holds c.args.test.now in
-    let n = c.args.bound in
-    let e = chosen_none p n 0 (omega (arith, count_none p n (λ j l. c.loop-least.invariant j (omega arith)))) in
-    record { value = sym e; first = subst (λ r. First p n r) e (chosen_first p n) }
+pub returns-clause-value : goal.returns-clause-value
+returns-clause-value g c = λ holds d.
+    chosen_find g.P.Fn _ g.met.P.Fn.1.step_stays g.met.P.FnMut.1.post_iff c.args.test holds c.args.bound d _ _ c.find.result (omega arith) (search rules) c.find.ensures.ran
+
+pub returns-clause-first : goal.returns-clause-first
+returns-clause-first g c = λ holds d.
+    subst (First holds c.args.bound) (sym (returns-clause-value g c holds d)) (chosen_first holds c.args.bound)

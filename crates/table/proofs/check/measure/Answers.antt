@@ -1,23 +1,15 @@
 -- The reading's answer is the only one that the check may give, and its number is the width.
-use Rattle.std.proofs.Common.{Err, sym, subst}
-use Rattle.table.specs.declared.fault.Fault.TheVariants.{Head as BadHead}
-use Rattle.table.specs.Steps.{Checked, verdict}
+use Rattle.std.proofs.Common.{sym, subst}
+use Rattle.table.specs.Steps.{verdict}
 use Rattle.table.proofs.Making.{Measured, read_measured}
-use Rattle.table.proofs.Verdicts.{checked_head, checked_same}
+use Rattle.table.proofs.Verdicts.{checked_same}
 use Rattle.table.proofs.check.measure.Goals as goal
 
-pub returns-then-head_fits : goal.returns-then-head_fits
-returns-then-head_fits c =
+pub returns-then-fits : goal.returns-then-fits
+returns-then-fits c =
     let h = c.args.head in
     let rows = c.args.rows.now in
     let known : Measured h rows c.read_table.result =
-    subst (λ r. Measured h rows r) (sym c.read_table.ensures) (read_measured h rows (sym c.if-head_fits.ensures))
+    subst (λ r. Measured h rows r) (sym c.read_table.ensures) (read_measured h rows (sym c.if-fits.ensures))
     in
     record { checked = known.0; only = λ other. checked_same h rows (verdict c.read_table.result) other known.0; width = known.1 }
-
-pub returns-else-head_fits : goal.returns-else-head_fits
-returns-else-head_fits c =
-    let h = c.args.head in
-    let rows = c.args.rows.now in
-    let so : Checked h rows (Err BadHead) = checked_head h rows (sym c.if-head_fits.ensures) in
-    record { checked = so; only = λ other. checked_same h rows (Err BadHead) other so; width = tt }

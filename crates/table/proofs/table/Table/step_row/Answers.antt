@@ -1,25 +1,27 @@
+-- What is chosen among the rows of the state is the step's row, counted from the table's first.
 use Rattle.std.proofs.Common.{◌+◌, ◌<◌, length, sym, ap, ◌∙◌, arith, rules}
 use Rattle.choose.proofs.Laws.{from_on, chosen_passes}
 use Rattle.table.specs.Parts.{begins_in}
-use Rattle.table.proofs.Parts.{part_row, part_within}
+use Rattle.table.proofs.Parts.{part_chosen, part_within}
 use Rattle.table.proofs.table.Table.step_row.Goals as goal
 
 pub overflow_add-result : goal.overflow_add-result
 overflow_add-result c =
-    let rows = c.args.self.now.rows.now in
-    let part = c.rows_of-here.result.rows.now in
-    let before = c.rows_of-here.result.before in
-    let i = c.in-Some.i in
-    let here = chosen_passes (begins_in part) (length part) c.args.step i (sym c.in-Some.ensures.value) in
-    let inside : before + i < length rows = omega (arith, part_within rows c.args.state before part c.rows_of-here.ensures, here.below) in
+    let part = c.rows_of-before.result in
+    let chosen = c.choose_passing.ensures.value (begins_in part.rows.now) (λ x r l k. search rules) in
+    let here = chosen_passes (begins_in part.rows.now) (length part.rows.now) c.args.step c.in_ok-i.i (sym chosen ∙ c.in_ok-i.was) in
+    let inside : part.before + c.in_ok-i.i < length c.args.self.now.rows.now = omega (arith, part_within c.args.self.now.rows.now c.args.state part.before part.rows.now c.rows_of-before.ensures, here.below) in
     search rules
 
-pub returns-in-Some : goal.returns-in-Some
-returns-in-Some c =
-    ap (from_on c.rows_of-here.result.before) c.in-Some.ensures.value
-    ∙ sym (part_row c.args.self.now.rows.now c.args.state c.rows_of-here.result.before c.rows_of-here.result.rows.now c.rows_of-here.ensures c.args.step)
+pub returns-in_err-i : goal.returns-in_err-i
+returns-in_err-i c =
+    let part = c.rows_of-before.result in
+    let chosen = c.choose_passing.ensures.value (begins_in part.rows.now) (λ x r l k. search rules) in
+    let none = sym (ap (from_on part.before) c.in_err-i.was) ∙ part_chosen c.args.self.now.rows.now c.args.state part.before part.rows.now c.rows_of-before.ensures c.args.step c.choose_passing.result chosen in
+    search rules
 
-pub returns-in-None : goal.returns-in-None
-returns-in-None c =
-    ap (from_on c.rows_of-here.result.before) c.in-None.ensures.value
-    ∙ sym (part_row c.args.self.now.rows.now c.args.state c.rows_of-here.result.before c.rows_of-here.result.rows.now c.rows_of-here.ensures c.args.step)
+pub returns : goal.returns
+returns c =
+    let part = c.rows_of-before.result in
+    let chosen = c.choose_passing.ensures.value (begins_in part.rows.now) (λ x r l k. search rules) in
+    sym (ap (from_on part.before) c.in_ok-i.was) ∙ part_chosen c.args.self.now.rows.now c.args.state part.before part.rows.now c.rows_of-before.ensures c.args.step c.choose_passing.result chosen

@@ -8,11 +8,6 @@ offset_bounds-self-i c = let within = begins_inside c.args.self.now c.args.state
 pub bounds-self-i : goal.bounds-self-i
 bounds-self-i c = begins_inside c.args.self.now c.args.state c.args.step c.in-Some.i c.in-Some.ensures
 
-pub overflow_add-result : goal.overflow_add-result
-overflow_add-result c =
-    let within = lands_inside c.args.self.now c.args.state c.args.step c.in-Some.i c.args.value c.rows_on.result c.in-Some.ensures c.if-value-self.false c.rows_on.ensures in
-    search rules
-
 pub offset_bounds-self-i-in-Some : goal.offset_bounds-self-i-in-Some
 offset_bounds-self-i-in-Some c =
     let within = lands_inside c.args.self.now c.args.state c.args.step c.in-Some.i c.args.value c.rows_on.result c.in-Some.ensures c.if-value-self.false c.rows_on.ensures in
