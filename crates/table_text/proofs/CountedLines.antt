@@ -1,36 +1,27 @@
--- A text is gone through line by line: how many lines have come, and that no more come than it has.
-use Rattle.std.proofs.Common.{◌≡◌, ℕ, ◌+◌, ◌<◌, ◌≤◌, List, [], ◌∷◌, length, drop, Some, subst, arith, Bor, length-drop, ap}
-use Rattle.std.proofs.lemmas.List.{drop-drop}
+-- A text is gone through line by line: each line comes with how many have come before it.
+use Rattle.std.proofs.Common.{◌≡◌, ℕ, ◌+◌, ◌<◌, List, length, Some, None, refl, ap, ◌∙◌, arith, Bor}
 use Rattle.std.proofs.lemmas.Iterator.{YieldsList}
+use Rattle.std.proofs.lemmas.Iterator.Consumers.{YieldsList-from_enumerate, YieldsList-turn, YieldsList-end}
 use Rattle.std.proofs.lemmas.Iterator.Splits.{YieldsList-from_lines}
+use Rattle.std.proofs.lemmas.List.FromFn.{length-enumerate_from, get_or-enumerate_from}
+use Rattle.std.specs.Iterator.{Yields}
+use Rattle.std.specs.Iterator.Adapters.{enumerate_source, enumerate_count, enumerate_steps}
+use Rattle.std.specs.List.{enumerate_from}
 use Rattle.std.specs.Str.Iter.{lines_steps, lines_rest}
 use Rattle.std.specs.Str.Lines.{lines}
+use Rattle.std.specs.declared.iter.Enumerate.{Enumerate}
 use Rattle.std.specs.declared.str.Lines.{Lines}
 
--- of the text's lines so many have come, and the others are still to come
-pub record Counted (text : List ℕ) (come : ℕ) (s : Lines) : Type 0 where
-  pub left : YieldsList lines_steps (λ x. x.now) s (drop come (lines text))
-  pub within : come ≤ length (lines text)
-  pub short : come + length (lines_rest s) ≤ length text
+module _ (text : List ℕ) (s : Enumerate Lines) (rest : lines_rest (enumerate_source s) ≡ text) (none : enumerate_count s ≡ 0) (come : List (ℕ × Bor (List ℕ))) (t : Enumerate Lines) (yields : Yields (enumerate_steps lines_steps) s come t) (u : Enumerate Lines) where
+  numbered : YieldsList (enumerate_steps lines_steps) (λ p. (p.0, p.1.now)) s (enumerate_from 0 (lines text))
+  numbered = YieldsList-from_enumerate (YieldsList-from_lines text rest) none
 
-pub counted_none : (text : List ℕ) (s : Lines) → lines_rest s ≡ text → Counted text 0 s
-counted_none text s e = record {
-  left = YieldsList-from_lines text e;
-  within = omega arith;
-  short = omega (arith, ap length e);
-}
+  pub line_comes : (x : ℕ × Bor (List ℕ)) → enumerate_steps lines_steps t (Some x) u → (x.0 ≡ length come) × (length come < length (lines text))
+  line_comes x step =
+      let turn = YieldsList-turn numbered come t yields (Some x) u x refl step in
+      let within : length come < length (lines text) = omega (arith, turn.0, length-enumerate_from 0 (lines text)) in
+      let same : x.0 ≡ 0 + length come = ap (λ p. p.0) (turn.1 ∙ get_or-enumerate_from 0 (lines text) (length come) (x.0, x.1.now) within) in
+      (omega (arith, same), within)
 
--- what is still to come has the line that comes at its front
-one_comes : (ys : List (List ℕ)) (s : Lines) (x : Bor (List ℕ)) (t : Lines) → YieldsList lines_steps (λ x. x.now) s ys → lines_steps s (Some x) t → (0 < length ys) × YieldsList lines_steps (λ x. x.now) t (drop 1 ys)
-one_comes [] s x t h step = absurd (h.runs x t step)
-one_comes (y ∷ ys) s x t h step = (omega arith, record { runs = (h.runs.1 x t step).1 })
-
-pub counted_more : (text : List ℕ) (come : ℕ) (s : Lines) (x : Bor (List ℕ)) (t : Lines) → Counted text come s → lines_steps s (Some x) t → length (lines_rest t) < length (lines_rest s) → Counted text (come + 1) t
-counted_more text come s x t h step less =
-    let next = one_comes (drop come (lines text)) s x t h.left step in
-    let more : come < length (lines text) = omega (arith, next.0, length-drop come (lines text)) in
-    record {
-      left = subst (λ ys. YieldsList lines_steps (λ x. x.now) t ys) (drop-drop 1 come (lines text)) next.1;
-      within = omega arith;
-      short = omega (arith, h.short);
-    }
+  pub all_come : enumerate_steps lines_steps t None u → length come ≡ length (lines text)
+  all_come step = (YieldsList-end numbered come t yields None u refl step).1 ∙ length-enumerate_from 0 (lines text)

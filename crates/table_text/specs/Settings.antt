@@ -8,6 +8,13 @@ use Rattle.table_text.specs.declared.text.Place.{Place}
 use Rattle.table_text.specs.declared.text.Place.TheVariants.{States, Range, Root, Rows}
 use Rattle.table_text.specs.Words.{and_then, setting_of, row_of}
 
+-- the setting that is still to come first
+abbrev pub missing : Place → Option Expected
+missing States = Some NoStates
+missing Range = Some NoRange
+missing Root = Some NoRoot
+missing Rows = None
+
 -- a line that sets the head and leads to another place, or is not as expected
 pub record Set : Type 0 where
   pub place : Place

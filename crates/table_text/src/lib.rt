@@ -3,4 +3,5 @@
 
 pub mod expected;
 pub mod line;
+mod number;
 pub mod text;

@@ -1,152 +1,127 @@
 // The words of one line.
-ghost use Rattle.std.specs.Str.{bytes_eq};
-ghost use Rattle.table_text.specs.Spelled.{ReadsNumber, ReadsRow};
-ghost use Rattle.table_text.specs.Words.{words_in, word_in, number_of, kind_of, or_expected, no_more, setting_of, row_of};
-ghost use Rattle.std.specs.Prelude.{◌≡◌};
+ghost use Rattle.std.specs.List.{before_first};
+ghost use Rattle.std.specs.Prelude.{◌≡◌, ◌==◌, ℕ, List, length, ok_or};
+ghost use Rattle.table_text.specs.Spelled.{ReadsRow};
+ghost use Rattle.table_text.specs.Words.{words_in, word_in, value_of, named_kind, no_more, set_value, row_of};
 
 use crate::expected::Expected;
+use crate::number::{Unsigned, number};
+use std::alloc::{AllocError, Global};
+use std::marker::Model;
+use table::kind::Kind;
 use table::row::Row;
 
 // What stands before a comment.
-pub(crate) fn before_comment(line: &str) -> &str {
-    match line.split_once('#') {
-        Some((front, _)) => front,
-        None => line,
-    }
-}
-
-// A word of a line, or an empty one past its end.
-fn word_at<'a>(words: &[&'a str], i: usize) -> &'a str
-    ensures { result.now ≡ word_in (words_in words.now) i }
+fn before_comment(line: &str) -> &str
+    ensures { result.now ≡ before_first (λ b. b == 35) line.now }
 {
-    if i < words.len() { words[i] } else { "" }
+    line.split_once('#').map_or(line, |(front, _)| front)
 }
 
-// A number in digits, with no sign.
-fn large_number(word: &str) -> Option<u32>
-    ensures value { result ≡ number_of 32 word.now }
-    ensures spelled { ReadsNumber 32 word.now result }
-{
-    if word.starts_with('+') {
-        return None;
-    }
-    word.parse::<u32>().ok()
-}
-
-fn small_number(word: &str) -> Option<u8>
-    ensures value { result ≡ number_of 8 word.now }
-    ensures spelled { ReadsNumber 8 word.now result }
-{
-    if word.starts_with('+') {
-        return None;
-    }
-    word.parse::<u8>().ok()
-}
-
-fn kind_number(word: &str) -> Option<u8>
-    ensures { result ≡ kind_of word.now }
+// The kind that a word names.
+fn kind(word: &str) -> Option<Kind>
+    ensures { result ≡ named_kind word.now }
 {
     match word {
-        "silent" => Some(0),
-        "send" => Some(1),
-        "receive" => Some(2),
+        "silent" => Some(Kind::Silent),
+        "send" => Some(Kind::Send),
+        "receive" => Some(Kind::Receive),
         _ => None,
     }
 }
 
-// The number at a place of the line.
-fn large_at(words: &[&str], i: usize, expected: Expected) -> Result<u32, Expected>
-    ensures { result ≡ or_expected (number_of 32 (word_in (words_in words.now) i)) expected }
-{
-    match large_number(word_at(words, i)) {
-        Some(number) => Ok(number),
-        None => Err(expected),
+// The words of a line. A contract sees the list of them.
+#[derive(Drop)]
+pub(crate) struct Words<'a> {
+    words: Vec<&'a str>,
+}
+
+impl<'a> Model for Words<'a> {
+    ghost Value = { List (List ℕ) };
+
+    ghost view = { λ w. words_in w.words.items };
+}
+
+impl<'a> Words<'a> {
+    pub(crate) fn of(heap: Global, line: &'a str) -> Result<Words<'a>, AllocError> {
+        let words: Vec<&str> = before_comment(line).split_whitespace().collect(heap)?;
+        Ok(Words { words })
     }
-}
 
-fn small_at(words: &[&str], i: usize, expected: Expected) -> Result<u8, Expected>
-    ensures { result ≡ or_expected (number_of 8 (word_in (words_in words.now) i)) expected }
-{
-    match small_number(word_at(words, i)) {
-        Some(number) => Ok(number),
-        None => Err(expected),
+    pub(crate) fn is_empty(&self) -> bool
+        ensures { result ≡ (length self.now == 0) }
+    {
+        self.words.is_empty()
     }
-}
 
-fn kind_at(words: &[&str], i: usize) -> Result<u8, Expected>
-    ensures { result ≡ or_expected (kind_of (word_in (words_in words.now) i)) Expected.Kind }
-{
-    match kind_number(word_at(words, i)) {
-        Some(kind) => Ok(kind),
-        None => Err(Expected::Kind),
+    // The word at a place, or an empty one past the end.
+    fn at(&self, i: usize) -> &'a str
+        ensures { result.now ≡ word_in self.now i }
+    {
+        self.words.as_slice().get(i).copied().unwrap_or("")
     }
-}
 
-// That the line has no more words than these.
-fn no_more(words: &[&str], most: usize) -> Result<(), Expected>
-    ensures { result ≡ no_more (words_in words.now) most }
-{
-    if words.len() <= most {
-        Ok(())
-    } else {
-        Err(Expected::LineEnd)
+    // The number at a place.
+    fn number_at<N: Unsigned>(&self, i: usize, expected: Expected) -> Result<N, Expected>
+        ensures { result ≡ ok_or (value_of N.bits N.value (word_in self.now i)) expected }
+    {
+        number(self.at(i)).ok_or(expected)
     }
-}
 
-// Whether the line begins with a name.
-fn begins_with(words: &[&str], name: &str) -> bool
-    ensures { result ≡ bytes_eq (word_in (words_in words.now) 0) name.now }
-{
-    word_at(words, 0) == name
-}
-
-// A line of a name and a number.
-pub(crate) fn large_setting(words: &[&str], name: &str, expected: Expected) -> Result<u32, Expected>
-    ensures { result ≡ setting_of 32 name.now expected (words_in words.now) }
-{
-    if !begins_with(words, name) {
-        return Err(expected);
+    fn kind_at(&self, i: usize) -> Result<Kind, Expected>
+        ensures { result ≡ ok_or (named_kind (word_in self.now i)) Expected.Kind }
+    {
+        kind(self.at(i)).ok_or(Expected::Kind)
     }
-    let number = large_at(words, 1, expected)?;
-    no_more(words, 2)?;
-    Ok(number)
-}
 
-pub(crate) fn small_setting(words: &[&str], name: &str, expected: Expected) -> Result<u8, Expected>
-    ensures { result ≡ setting_of 8 name.now expected (words_in words.now) }
-{
-    if !begins_with(words, name) {
-        return Err(expected);
+    // That there are no more words than these. An `if` is plainer than an Option made for `ok_or`.
+    fn no_more(&self, most: usize) -> Result<(), Expected>
+        ensures { result ≡ no_more self.now most }
+    {
+        if self.words.len() <= most {
+            Ok(())
+        } else {
+            Err(Expected::LineEnd)
+        }
     }
-    let number = small_at(words, 1, expected)?;
-    no_more(words, 2)?;
-    Ok(number)
-}
 
-// A line of five words: the state that the row leaves, its kind, channel and value, and the state
-// that it leads to.
-pub(crate) fn row(words: &[&str]) -> Result<Row, Expected>
-    ensures value { result ≡ row_of (words_in words.now) }
-    ensures spelled { ReadsRow (words_in words.now) result }
-{
-    five_words(words)
-}
+    // A name and a number.
+    pub(crate) fn setting<N: Unsigned>(&self, name: &str, expected: Expected) -> Result<N, Expected>
+        ensures { result ≡ set_value N.bits N.value name.now expected self.now }
+    {
+        if self.at(0) != name {
+            return Err(expected);
+        }
+        let number = self.number_at(1, expected)?;
+        self.no_more(2)?;
+        Ok(number)
+    }
 
-// The same, without the law on words that spell a row.
-fn five_words(words: &[&str]) -> Result<Row, Expected>
-    ensures { result ≡ row_of (words_in words.now) }
-{
-    let from = large_at(words, 0, Expected::From)?;
-    let kind = kind_at(words, 1)?;
-    let channel = small_at(words, 2, Expected::Channel)?;
-    let value = small_at(words, 3, Expected::Value)?;
-    let to = large_at(words, 4, Expected::To)?;
-    no_more(words, 5)?;
-    Ok(Row {
-        from,
-        kind,
-        channel,
-        value,
-        to,
-    })
+    // Five words: the state that the row leaves, its kind, channel and value, and the state that it
+    // leads to.
+    pub(crate) fn row(&self) -> Result<Row, Expected>
+        ensures value { result ≡ row_of self.now }
+        ensures spelled { ReadsRow self.now result }
+    {
+        self.five_words()
+    }
+
+    // The same, without the law on words that spell a row.
+    fn five_words(&self) -> Result<Row, Expected>
+        ensures { result ≡ row_of self.now }
+    {
+        let from = self.number_at(0, Expected::From)?;
+        let kind = self.kind_at(1)?;
+        let channel = self.number_at(2, Expected::Channel)?;
+        let value = self.number_at(3, Expected::Value)?;
+        let to = self.number_at(4, Expected::To)?;
+        self.no_more(5)?;
+        Ok(Row {
+            from,
+            kind: u8::from(kind),
+            channel,
+            value,
+            to,
+        })
+    }
 }

@@ -1,13 +1,12 @@
 // A whole text.
-ghost use Rattle.std.specs.Prelude.{◌≡◌, IfErr, IfOk, OnOk, length, vec_len};
+ghost use Rattle.std.specs.Prelude.{◌≡◌, ◌<◌, ◌++◌, ◌∷◌, [], IfErr, IfOk, OnErr, OnOk, length, vec_len};
 ghost use Rattle.std.specs.Str.Lines.{lines};
 ghost use Rattle.table_text.specs.LineNumbers.{AddsAtMost, RisingLines, Tells, TellsALine};
-ghost use Rattle.table_text.specs.Settings.{line_at, told_row, next_place, next_head};
-ghost use Rattle.table_text.specs.Words.{words_in};
+ghost use Rattle.table_text.specs.Settings.{line_at, missing, next_head, next_place, told_row};
 
 use crate::expected::{Expected, TextFault};
-use crate::line::{before_comment, large_setting, row, small_setting};
-use std::alloc::Global;
+use crate::line::Words;
+use std::alloc::{AllocError, Global};
 use table::row::{Head, Row};
 
 // How many of the three settings have been read.
@@ -19,12 +18,60 @@ enum Place {
     Rows,
 }
 
+impl Place {
+    // The setting that is still to come first.
+    fn missing(self) -> Option<Expected>
+        ensures { result ≡ missing self }
+    {
+        match self {
+            Place::States => Some(Expected::States),
+            Place::Range => Some(Expected::Range),
+            Place::Root => Some(Expected::Root),
+            Place::Rows => None,
+        }
+    }
+}
+
 // A table as its text says it, and the line of each row, counted from 1.
 #[derive(Drop)]
 pub struct TextTable {
     pub head: Head,
     pub rows: Vec<Row>,
     pub lines: Vec<usize>,
+    ghost each: { vec_len lines ≡ vec_len rows },
+}
+
+impl TextTable {
+    fn new(heap: Global) -> TextTable
+        ensures rows { result.rows.items ≡ [] }
+        ensures lines { result.lines.items ≡ [] }
+    {
+        let head = Head {
+            states: 0,
+            range: 0,
+            root: 0,
+        };
+        TextTable {
+            head,
+            rows: Vec::new(heap),
+            lines: Vec::new(heap),
+        }
+    }
+
+    // Adds a row with its line, or leaves both lists as they are.
+    fn push(&mut self, row: Row, line: usize) -> Result<(), AllocError>
+        ensures head { self.new.head ≡ self.old.head }
+        ensures rows { OnOk result (self.new.rows.items ≡ self.old.rows.items ++ row ∷ []) }
+        ensures lines { OnOk result (self.new.lines.items ≡ self.old.lines.items ++ line ∷ []) }
+        ensures err_rows { OnErr result (self.new.rows.items ≡ self.old.rows.items) }
+        ensures err_lines { OnErr result (self.new.lines.items ≡ self.old.lines.items) }
+    {
+        // room comes first, so that a row never stands without its line
+        self.rows.reserve(1)?;
+        self.lines.push(line)?;
+        self.rows.push(row).unwrap();
+        Ok(())
+    }
 }
 
 #[derive(Drop)]
@@ -35,47 +82,52 @@ struct Reader {
 
 impl Reader {
     // One line that is not empty.
-    fn read(&mut self, words: &[&str], line: usize) -> Result<(), TextFault>
-        ensures each { OnOk result (vec_len self.old.table.lines ≡ vec_len self.old.table.rows → vec_len self.new.table.lines ≡ vec_len self.new.table.rows) }
+    fn read(&mut self, words: &Words, line: usize) -> Result<(), TextFault>
         ensures lines { OnOk result (AddsAtMost line self.old.table.lines.items self.new.table.lines.items) }
         ensures told { IfErr result (Tells line) }
     {
-        match self.read_words(words) {
-            Ok(None) => Ok(()),
-            Ok(Some(row)) => {
-                self.table.rows.push(row)?;
-                self.table.lines.push(line)?;
-                Ok(())
-            }
-            Err(expected) => Err(TextFault::Line(line, expected)),
+        let row = self
+            .read_words(words)
+            .map_err(|expected| TextFault::Line(line, expected))?;
+        if let Some(row) = row {
+            self.table.push(row, line)?;
         }
+        Ok(())
     }
 
     // A setting is kept, and a row is handed back.
-    fn read_words(&mut self, words: &[&str]) -> Result<Option<Row>, Expected>
-        ensures value { result ≡ told_row (line_at self.old.place self.old.table.head (words_in words.now)) }
-        ensures place { self.new.place ≡ next_place self.old.place (line_at self.old.place self.old.table.head (words_in words.now)) }
-        ensures head { self.new.table.head ≡ next_head self.old.table.head (line_at self.old.place self.old.table.head (words_in words.now)) }
+    fn read_words(&mut self, words: &Words) -> Result<Option<Row>, Expected>
+        ensures value { result ≡ told_row (line_at self.old.place self.old.table.head words.now) }
+        ensures place { self.new.place ≡ next_place self.old.place (line_at self.old.place self.old.table.head words.now) }
+        ensures head { self.new.table.head ≡ next_head self.old.table.head (line_at self.old.place self.old.table.head words.now) }
         ensures rows { self.new.table.rows ≡ self.old.table.rows }
         ensures lines { self.new.table.lines ≡ self.old.table.lines }
     {
         match self.place {
             Place::States => {
-                self.table.head.states = large_setting(words, "states", Expected::States)?;
+                self.table.head.states = words.setting("states", Expected::States)?;
                 self.place = Place::Range;
             }
             Place::Range => {
-                self.table.head.range = small_setting(words, "range", Expected::Range)?;
+                self.table.head.range = words.setting("range", Expected::Range)?;
                 self.place = Place::Root;
             }
             Place::Root => {
-                self.table.head.root = large_setting(words, "root", Expected::Root)?;
+                self.table.head.root = words.setting("root", Expected::Root)?;
                 self.place = Place::Rows;
             }
-            Place::Rows => return Ok(Some(row(words)?)),
+            Place::Rows => return Ok(Some(words.row()?)),
         }
         Ok(None)
     }
+}
+
+// How many lines a text has.
+fn line_count(text: &str) -> usize
+    ensures count { result ≡ length (lines text.now) }
+    ensures room { result < usize.MAX }
+{
+    text.lines().count()
 }
 
 // Reads a text, or tells the first line that is not as expected. Each row has its line.
@@ -84,33 +136,19 @@ pub fn read_text(heap: Global, text: &str) -> Result<TextTable, TextFault>
     ensures rising { IfOk result (λ t. RisingLines (length (lines text.now)) t.lines.items) }
     ensures told { IfErr result (TellsALine (length (lines text.now))) }
 {
-    let head = Head {
-        states: 0,
-        range: 0,
-        root: 0,
-    };
-    let table = TextTable {
-        head,
-        rows: Vec::new(heap),
-        lines: Vec::new(heap),
-    };
     let mut reader = Reader {
         place: Place::States,
-        table,
+        table: TextTable::new(heap),
     };
-    let mut count: usize = 0;
-    for line in text.lines() {
-        count = count.saturating_add(1);
-        let words: Vec<&str> = before_comment(line).split_whitespace().collect(heap)?;
+    for (before, line) in text.lines().enumerate() {
+        let words = Words::of(heap, line)?;
         if !words.is_empty() {
-            reader.read(words.as_slice(), count)?;
+            reader.read(&words, before + 1)?;
         }
     }
     let Reader { place, table } = reader;
-    match place {
-        Place::States => Err(TextFault::Line(count.saturating_add(1), Expected::States)),
-        Place::Range => Err(TextFault::Line(count.saturating_add(1), Expected::Range)),
-        Place::Root => Err(TextFault::Line(count.saturating_add(1), Expected::Root)),
-        Place::Rows => Ok(table),
+    match place.missing() {
+        Some(expected) => Err(TextFault::Line(line_count(text) + 1, expected)),
+        None => Ok(table),
     }
 }

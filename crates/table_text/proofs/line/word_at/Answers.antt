@@ -1,8 +1,0 @@
-use Rattle.table_text.proofs.LineWords.{word_there, word_past}
-use Rattle.table_text.proofs.line.word_at.Goals as goal
-
-pub returns-then-i-words : goal.returns-then-i-words
-returns-then-i-words c = word_there c.args.words.now c.args.i _ c.if-i-words.true
-
-pub returns-else-i-words : goal.returns-else-i-words
-returns-else-i-words c = word_past c.args.words.now c.args.i c.if-i-words.false
