@@ -6,7 +6,7 @@ mod failure;
 mod report;
 
 use crate::failure::Failure;
-use crate::report::survey_text;
+use crate::report::{MOST_STATES, survey_text};
 use std::process::ExitCode;
 use std::{env, fs};
 
@@ -35,46 +35,33 @@ fn main(rt: HostRuntime) -> ExitCode {
 }
 
 fn run(rt: &HostRuntime) -> Result<(), Failure> {
-    let words: Vec<String> = env::args(rt)?.skip(1).collect(rt.alloc())?;
-    let words = words.as_slice();
-    if words.len() == 0 {
-        return survey_text(rt, example::NAME, example::TEXT, 65535);
-    }
-    match words[0].as_str() {
-        "help" => Ok(rt.println(HELP)?),
-        "survey" if words.len() == 2 => survey_file(rt, words[1].as_str(), 65535),
-        "survey" if words.len() == 3 => {
-            let capacity = capacity(rt, words[2].as_str())?;
-            survey_file(rt, words[1].as_str(), capacity)
-        }
-        "survey" => told(
-            rt,
+    let heap = rt.alloc();
+    let words: Vec<String> = env::args(rt)?.skip(1).collect(heap)?;
+    let words: Vec<&str> = words.iter().map(|word| word.as_str()).collect(heap)?;
+    match words.as_slice() {
+        [] => survey_text(rt, example::NAME, example::TEXT, MOST_STATES),
+        ["help", ..] => Ok(rt.println(HELP)?),
+        ["survey", path] => survey_file(rt, path, MOST_STATES),
+        ["survey", path, word] => survey_file(rt, path, capacity(rt, word)?),
+        ["survey", ..] => Err(Failure::Told(String::from_str(
+            heap,
             "survey takes a FILE and, if wanted, a CAPACITY; see 'goulvrezh help'",
-        ),
-        other => Err(Failure::Told(format!(in rt.alloc();
+        )?)),
+        [other, ..] => Err(Failure::Told(format!(in heap;
             "there is no command '{other}'; see 'goulvrezh help'"
         )?)),
     }
 }
 
-fn told(rt: &HostRuntime, text: &str) -> Result<(), Failure> {
-    Err(Failure::Told(String::from_str(rt.alloc(), text)?))
-}
-
 fn capacity(rt: &HostRuntime, word: &str) -> Result<usize, Failure> {
-    match word.parse::<usize>() {
-        Ok(capacity) => Ok(capacity),
-        Err(_) => Err(Failure::Told(format!(in rt.alloc();
-            "'{word}' is no capacity: expected a number"
-        )?)),
-    }
+    word.parse::<usize>().try_map_err(|_| {
+        Ok(Failure::Told(format!(in rt.alloc(); "'{word}' is no capacity: expected a number")?))
+    })
 }
 
 fn survey_file(rt: &HostRuntime, path: &str, capacity: usize) -> Result<(), Failure> {
-    match fs::read_to_string(rt, path) {
-        Ok(text) => survey_text(rt, path, text.as_str(), capacity),
-        Err(error) => Err(Failure::Told(format!(in rt.alloc();
-            "{path}: cannot be read: {error}"
-        )?)),
-    }
+    let text = fs::read_to_string(rt, path).try_map_err(|error| {
+        Ok(Failure::Told(format!(in rt.alloc(); "{path}: cannot be read: {error}")?))
+    })?;
+    survey_text(rt, path, text.as_str(), capacity)
 }

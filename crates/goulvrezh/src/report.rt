@@ -1,4 +1,6 @@
 // What a survey says, line by line. The first words of a line are stable, for scripts to read.
+ghost use Rattle.table.specs.Steps.{Checked};
+
 use crate::failure::Failure;
 use explore::survey::survey;
 use source::label::{Label, value_count};
@@ -9,7 +11,7 @@ use table::table::Table;
 use table_text::text::{TextTable, read_text};
 
 // The most states that a survey lists.
-const MOST_STATES: usize = 65535;
+pub(crate) const MOST_STATES: usize = 65535;
 
 // Surveys the table that a text spells.
 pub(crate) fn survey_text(
@@ -19,10 +21,10 @@ pub(crate) fn survey_text(
     capacity: usize,
 ) -> Result<(), Failure> {
     let heap = rt.alloc();
-    match read_text(heap, text) {
-        Ok(table) => survey_table(rt, name, &table, capacity),
-        Err(fault) => Err(Failure::Told(format!(in heap; "{name}: {fault}")?)),
-    }
+    let table = read_text(heap, text).try_map_err(|fault| {
+        Ok(Failure::Told(format!(in heap; "{name}: {fault}")?))
+    })?;
+    survey_table(rt, name, &table, capacity)
 }
 
 fn survey_table(
@@ -33,7 +35,7 @@ fn survey_table(
 ) -> Result<(), Failure> {
     let rows = text.rows.as_slice();
     if let Err(fault) = check(text.head, rows) {
-        return refused(rt, name, text.lines.as_slice(), fault);
+        return refused(rt, name, text, fault);
     }
     println!(rt; "source {name}")?;
     survey_source(rt, name, &Table::new(text.head, rows), capacity)
@@ -48,19 +50,25 @@ fn wrong_row(last: bool) -> &'static str {
     }
 }
 
-// What is said of a table that breaks a rule.
-fn refused(rt: &HostRuntime, name: &str, lines: &[usize], fault: Fault) -> Result<(), Failure> {
+// What is said of a table that breaks a rule. The check tells a row that there is, so it has a line.
+fn refused(rt: &HostRuntime, name: &str, text: &TextTable, fault: Fault) -> Result<(), Failure>
+    requires { Checked text.now.head text.now.rows.items (Err fault) }
+{
     let heap = rt.alloc();
     let number = fault.number();
-    let row = fault.row();
-    if row == 0 || row > lines.len() {
-        return Err(Failure::Told(format!(in heap;
-            "{name}: refused {number} {row}: the states are 1 to 65536, the range is 1 to 32, and the root is a state"
-        )?));
+    match fault {
+        Fault::Head => Err(Failure::Told(format!(in heap;
+            "{name}: refused {number} 0: the states are 1 to 65536, the range is 1 to 32, and the root is a state"
+        )?)),
+        Fault::Row(row) => {
+            let lines = text.lines.as_slice();
+            let line = lines[row - 1];
+            let what = wrong_row(row == lines.len());
+            Err(Failure::Told(format!(in heap;
+                "{name}: line {line}: refused {number} {row}: {what}"
+            )?))
+        }
     }
-    let line = lines[row - 1];
-    let what = wrong_row(row == lines.len());
-    Err(Failure::Told(format!(in heap; "{name}: line {line}: refused {number} {row}: {what}")?))
 }
 
 // The four numbers of a source, then the states that it reaches with their steps.
@@ -81,17 +89,17 @@ fn survey_source<S: Source>(
     println!(rt; "width {width}")?;
     let room = capacity.min(MOST_STATES).min(extent as usize);
     let mut states = vec![in heap; 0u32; room]?;
-    let answer = survey(source, states.as_mut_slice());
-    match answer {
+    match survey(source, states.as_mut_slice()) {
         Ok(count) => {
             println!(rt; "reached {count}")?;
             let unreached = (extent as usize).saturating_sub(count);
             println!(rt; "unreached {unreached}")?;
-            print_states(rt, source, states.as_slice(), count)
+            states.truncate(count);
+            print_states(rt, source, states.as_slice())
         }
         Err(refusal) => {
             println!(rt; "reached more than {room}")?;
-            print_states(rt, source, states.as_slice(), room)?;
+            print_states(rt, source, states.as_slice())?;
             let number = refusal.number();
             Err(Failure::Told(format!(in heap;
                 "{name}: refused {number}: more states are reached than there is room for, which is {room}"
@@ -100,13 +108,8 @@ fn survey_source<S: Source>(
     }
 }
 
-fn print_states<S: Source>(
-    rt: &HostRuntime,
-    source: &S,
-    states: &[u32],
-    count: usize,
-) -> Result<(), Failure> {
-    for state in states.iter().take(count) {
+fn print_states<S: Source>(rt: &HostRuntime, source: &S, states: &[u32]) -> Result<(), Failure> {
+    for state in states {
         let degree = source.degree(*state);
         println!(rt; "state {state} steps {degree}")?;
         for step in 0..degree {
@@ -126,7 +129,7 @@ fn print_step<S: Source>(
     let label = source.label(state, step);
     print!(rt; "step {step} {label}")?;
     match label {
-        Label::Receive { channel: _ } => {
+        Label::Receive { .. } => {
             for value in 0..value_count(source.range(), label) {
                 let to = source.landing(state, step, value);
                 print!(rt; ", value {value} to state {to}")?;
