@@ -1,15 +1,12 @@
 // The check of a table: what is accepted, and which row is told.
 use crate::rows::{head, receive, send, silent};
-use std::test::Fail;
+use std::array;
 use table::check::check as check_table;
 use table::row::{Head, Row};
 
 // The row that is told, or none where the table is accepted.
 fn told(head: Head, rows: &[Row]) -> Option<usize> {
-    match check_table(head, rows) {
-        Ok(()) => None,
-        Err(fault) => Some(fault.row()),
-    }
+    check_table(head, rows).err().map(|fault| fault.row())
 }
 
 #[test]
@@ -38,32 +35,20 @@ fn bad_rows_are_told_at_their_place(rt: HostRuntime) {
         silent(3, 0),
         silent(0, 3),
         Row {
-            from: 0,
-            kind: 0,
             channel: 1,
-            value: 0,
-            to: 0,
+            ..silent(0, 0)
         },
         Row {
-            from: 0,
-            kind: 0,
-            channel: 0,
             value: 1,
-            to: 0,
+            ..silent(0, 0)
         },
         Row {
-            from: 0,
             kind: 3,
-            channel: 0,
-            value: 0,
-            to: 0,
+            ..silent(0, 0)
         },
         Row {
-            from: 0,
             kind: 255,
-            channel: 0,
-            value: 0,
-            to: 0,
+            ..silent(0, 0)
         },
         send(0, 64, 0, 0),
         send(0, 0, 2, 0),
@@ -108,40 +93,30 @@ fn receives_take_a_row_for_each_value(rt: HostRuntime) {
     assert_eq!(rt; told(h, &[receive(0, 5, 0, 1)]), Some(1));
     assert_eq!(rt; told(h, &[silent(0, 1), receive(0, 5, 0, 1)]), Some(2));
     // interrupted: the row that interrupts is told
-    assert_eq!(rt; told(h, &[receive(0, 5, 0, 1), silent(0, 1)]), Some(2));
-    assert_eq!(rt;
-        told(h, &[receive(0, 5, 0, 1), silent(1, 1), silent(2, 1)]),
-        Some(2)
-    );
-    assert_eq!(rt;
-        told(h, &[receive(0, 5, 0, 1), receive(0, 6, 1, 1)]),
-        Some(2)
-    );
-    assert_eq!(rt;
-        told(h, &[receive(0, 5, 0, 1), receive(1, 5, 1, 1)]),
-        Some(2)
-    );
-    assert_eq!(rt;
-        told(h, &[receive(0, 5, 0, 1), receive(0, 5, 0, 1)]),
-        Some(2)
-    );
-    assert_eq!(rt;
-        told(h, &[receive(0, 5, 0, 1), receive(0, 5, 2, 1)]),
-        Some(2)
-    );
-    assert_eq!(rt;
-        told(h, &[receive(0, 5, 0, 1), receive(0, 5, 1, 3)]),
-        Some(2)
-    );
+    let begun = receive(0, 5, 0, 1);
+    assert_eq!(rt; told(h, &[begun, silent(1, 1), silent(2, 1)]), Some(2));
+    let interrupting = [
+        silent(0, 1),
+        receive(0, 6, 1, 1),
+        receive(1, 5, 1, 1),
+        receive(0, 5, 0, 1),
+        receive(0, 5, 2, 1),
+        receive(0, 5, 1, 3),
+    ];
+    for row in interrupting {
+        assert_eq!(rt; told(h, &[begun, row]), Some(2));
+    }
 }
 
 // A receive at range 32, and a send behind it.
 fn one_wide_receive() -> [Row; 33] {
-    let mut rows = [send(1, 63, 31, 0); 33];
-    for i in 0..32u8 {
-        rows[i as usize] = receive(0, 63, i, 1);
-    }
-    rows
+    array::from_fn(|i| {
+        if i < 32 {
+            receive(0, 63, i as u8, 1)
+        } else {
+            send(1, 63, 31, 0)
+        }
+    })
 }
 
 // At range 1 a receive is one row, and at range 32 it is 32.
@@ -185,11 +160,7 @@ fn at_most_64_steps(rt: HostRuntime) {
 
 // 65 receives of one state.
 fn many_receives() -> [Row; 130] {
-    let mut rows = [receive(0, 0, 0, 1); 130];
-    for i in 0..65usize {
-        rows[2 * i + 1] = receive(0, 0, 1, 1);
-    }
-    rows
+    array::from_fn(|i| receive(0, 0, (i % 2) as u8, 1))
 }
 
 // The rows of a receive are one step.
@@ -205,14 +176,13 @@ fn at_most_64_receives(rt: HostRuntime) {
 }
 
 #[test]
-fn a_table_is_refused_by_number_9(rt: HostRuntime) -> Result<(), Fail> {
-    match check_table(head(0, 1, 0), &[]) {
-        Ok(()) => return Err(Fail::new("accepted")),
-        Err(fault) => assert_eq!(rt; fault.number(), 9),
-    }
-    match check_table(head(1, 1, 0), &[silent(1, 0)]) {
-        Ok(()) => return Err(Fail::new("accepted")),
-        Err(fault) => assert_eq!(rt; fault.number(), 9),
-    }
-    Ok(())
+fn a_table_is_refused_by_number_9(rt: HostRuntime) {
+    assert_eq!(rt;
+        check_table(head(0, 1, 0), &[]).map_err(|fault| fault.number()),
+        Err(9)
+    );
+    assert_eq!(rt;
+        check_table(head(1, 1, 0), &[silent(1, 0)]).map_err(|fault| fault.number()),
+        Err(9)
+    );
 }

@@ -1,35 +1,29 @@
 // Tables of the largest number of states.
 use crate::rows::{head, send, silent};
-use explore::refusal::Refusal;
-use explore::survey::survey;
+use crate::surveys::reached;
 use source::source::Source;
 use std::alloc::{AllocError, Global};
 use std::test::Fail;
 use table::row::Row;
 use table::table::Table;
 
+// Where a step of the large table leads.
+fn landing(from: u32, step: u32) -> u32 {
+    from.wrapping_mul(7).wrapping_add(step) % 65536
+}
+
 // 65,536 states with 8 steps each.
 fn large(heap: Global) -> Result<Vec<Row>, AllocError> {
-    let mut rows = Vec::new(heap);
-    for from in 0..65536u32 {
-        for step in 0..8u8 {
-            rows.push(send(from, step, 0, (from * 7 + u32::from(step)) % 65536))?;
-        }
-    }
-    Ok(rows)
+    (0..524288u32)
+        .map(|i| send(i / 8, (i % 8) as u8, 0, landing(i / 8, i % 8)))
+        .collect(heap)
 }
 
 // How many landings are as they were written.
-fn right_landings<S: Source>(table: &S) -> u64 {
-    let mut right: u64 = 0;
-    for from in 0..65536u32 {
-        for step in 0..8u32 {
-            if table.landing(from, step, 0) == (from * 7 + step) % 65536 {
-                right = right.saturating_add(1);
-            }
-        }
-    }
-    right
+fn right_landings<S: Source>(table: &S) -> usize {
+    (0..524288u32)
+        .filter(|i| table.landing(i / 8, i % 8, 0) == landing(i / 8, i % 8))
+        .count()
 }
 
 // If a question went through all rows, these half a million questions would look at some hundred
@@ -46,19 +40,9 @@ fn every_question_is_quick(rt: HostRuntime) -> Result<(), Fail> {
 
 // Each state leads to the next one, 65,536 of them.
 fn chain(heap: Global) -> Result<Vec<Row>, AllocError> {
-    let mut rows = Vec::new(heap);
-    for from in 0..65535u32 {
-        rows.push(silent(from, from + 1))?;
-    }
-    Ok(rows)
-}
-
-// The number of the refusal, or 0.
-fn refusal_of(answer: Result<usize, Refusal>) -> u8 {
-    match answer {
-        Ok(_) => 0,
-        Err(refusal) => refusal.number(),
-    }
+    (0..65535u32)
+        .map(|from| silent(from, from + 1))
+        .collect(heap)
 }
 
 // However long the list is, there is room for 65,535 states.
@@ -67,7 +51,7 @@ fn no_more_than_the_most(rt: HostRuntime) -> Result<(), Fail> {
     let rows = chain(rt.alloc())?;
     let table = Table::new(head(65536, 1, 0), rows.as_slice());
     let mut list = vec![in rt.alloc(); 7u32; 65537]?;
-    assert_eq!(rt; refusal_of(survey(&table, list.as_mut_slice())), 14);
+    assert_eq!(rt; reached(&table, list.as_mut_slice()), Err(14));
     assert!(rt; list.len() == 65537);
     assert_eq!(rt; list[65534], 65534);
     assert_eq!(rt; list[65535], 7);
@@ -81,7 +65,7 @@ fn exactly_the_most(rt: HostRuntime) -> Result<(), Fail> {
     let rows = chain(rt.alloc())?;
     let table = Table::new(head(65536, 1, 1), rows.as_slice());
     let mut list = vec![in rt.alloc(); 7u32; 65536]?;
-    assert_eq!(rt; refusal_of(survey(&table, list.as_mut_slice())), 0);
+    assert_eq!(rt; reached(&table, list.as_mut_slice()), Ok(65535));
     assert!(rt; list.len() == 65536);
     assert_eq!(rt; list[65534], 65535);
     assert_eq!(rt; list[65535], 7);

@@ -1,4 +1,5 @@
 // Rows for the tests.
+use table::kind::Kind;
 use table::row::{Head, Row};
 
 pub(crate) fn head(states: u32, range: u8, root: u32) -> Head {
@@ -12,7 +13,7 @@ pub(crate) fn head(states: u32, range: u8, root: u32) -> Head {
 pub(crate) fn silent(from: u32, to: u32) -> Row {
     Row {
         from,
-        kind: 0,
+        kind: u8::from(Kind::Silent),
         channel: 0,
         value: 0,
         to,
@@ -22,7 +23,7 @@ pub(crate) fn silent(from: u32, to: u32) -> Row {
 pub(crate) fn send(from: u32, channel: u8, value: u8, to: u32) -> Row {
     Row {
         from,
-        kind: 1,
+        kind: u8::from(Kind::Send),
         channel,
         value,
         to,
@@ -32,7 +33,7 @@ pub(crate) fn send(from: u32, channel: u8, value: u8, to: u32) -> Row {
 pub(crate) fn receive(from: u32, channel: u8, value: u8, to: u32) -> Row {
     Row {
         from,
-        kind: 2,
+        kind: u8::from(Kind::Receive),
         channel,
         value,
         to,

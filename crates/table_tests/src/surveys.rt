@@ -1,7 +1,7 @@
 // Surveys: the order, and the list's length around what is reached.
 use crate::rows::{head, receive, send, silent};
-use explore::refusal::Refusal;
 use explore::survey::survey;
+use source::source::Source;
 use source::still::Still;
 use table::row::Row;
 use table::table::Table;
@@ -18,12 +18,9 @@ fn rows() -> [Row; 6] {
     ]
 }
 
-// The count, or 14 and a hundred where it is refused.
-fn count(answer: Result<usize, Refusal>) -> usize {
-    match answer {
-        Ok(count) => count,
-        Err(refusal) => 100 + refusal.number() as usize,
-    }
+// How many states are reached, or the number of the refusal.
+pub(crate) fn reached<S: Source>(source: &S, list: &mut [u32]) -> Result<usize, u8> {
+    survey(source, list).map_err(|refusal| refusal.number())
 }
 
 #[test]
@@ -31,8 +28,8 @@ fn order_of_step_and_value(rt: HostRuntime) {
     let rows = rows();
     let mut list = [99u32; 6];
     assert_eq!(rt;
-        count(survey(&Table::new(head(5, 2, 2), &rows), &mut list)),
-        4
+        reached(&Table::new(head(5, 2, 2), &rows), &mut list),
+        Ok(4)
     );
     assert_eq!(rt; list, [2, 4, 1, 0, 99, 99]);
 }
@@ -42,8 +39,8 @@ fn exactly_enough_room(rt: HostRuntime) {
     let rows = rows();
     let mut list = [99u32; 4];
     assert_eq!(rt;
-        count(survey(&Table::new(head(5, 2, 2), &rows), &mut list)),
-        4
+        reached(&Table::new(head(5, 2, 2), &rows), &mut list),
+        Ok(4)
     );
     assert_eq!(rt; list, [2, 4, 1, 0]);
 }
@@ -53,8 +50,8 @@ fn one_more_than_enough(rt: HostRuntime) {
     let rows = rows();
     let mut list = [99u32; 5];
     assert_eq!(rt;
-        count(survey(&Table::new(head(5, 2, 2), &rows), &mut list)),
-        4
+        reached(&Table::new(head(5, 2, 2), &rows), &mut list),
+        Ok(4)
     );
     assert_eq!(rt; list, [2, 4, 1, 0, 99]);
 }
@@ -64,8 +61,8 @@ fn one_too_short(rt: HostRuntime) {
     let rows = rows();
     let mut list = [99u32; 3];
     assert_eq!(rt;
-        count(survey(&Table::new(head(5, 2, 2), &rows), &mut list)),
-        114
+        reached(&Table::new(head(5, 2, 2), &rows), &mut list),
+        Err(14)
     );
     assert_eq!(rt; list, [2, 4, 1]);
 }
@@ -75,15 +72,15 @@ fn no_room_at_all(rt: HostRuntime) {
     let rows = rows();
     let mut list = [0u32; 0];
     assert_eq!(rt;
-        count(survey(&Table::new(head(5, 2, 2), &rows), &mut list)),
-        114
+        reached(&Table::new(head(5, 2, 2), &rows), &mut list),
+        Err(14)
     );
-    assert_eq!(rt; count(survey(&Still::new(3), &mut list)), 114);
+    assert_eq!(rt; reached(&Still::new(3), &mut list), Err(14));
 }
 
 #[test]
 fn still_reaches_its_root(rt: HostRuntime) {
     let mut list = [99u32; 2];
-    assert_eq!(rt; count(survey(&Still::new(32), &mut list)), 1);
+    assert_eq!(rt; reached(&Still::new(32), &mut list), Ok(1));
     assert_eq!(rt; list, [0, 99]);
 }

@@ -6,74 +6,45 @@ use table_text::text::read_text;
 
 // The fault of a text, or none where it is read.
 fn fault(heap: Global, text: &str) -> Option<TextFault> {
-    match read_text(heap, text) {
-        Ok(_) => None,
-        Err(fault) => Some(fault),
-    }
+    read_text(heap, text).err()
 }
 
 #[test]
 fn a_table_is_read(rt: HostRuntime) -> Result<(), Fail> {
     let text =
         "# a table\n\nstates 3 # three\n  range 2\nroot 1\n0 send 63 1 2\n\n1 receive 0 0 0\n1 receive 0 1 2 # last\n";
-    match read_text(rt.alloc(), text) {
-        Ok(table) => {
-            assert_eq!(rt; table.head.states, 3);
-            assert_eq!(rt; table.head.range, 2);
-            assert_eq!(rt; table.head.root, 1);
-            assert!(rt; table.rows.len() == 3);
-            assert!(rt; table.lines.len() == 3);
-            assert_eq!(rt; table.lines[0], 6);
-            assert_eq!(rt; table.lines[2], 9);
-            assert_eq!(rt; table.rows[0].channel, 63);
-            assert_eq!(rt; table.rows[1].kind, 2);
-            assert_eq!(rt; table.rows[2].to, 2);
-            Ok(())
-        }
-        Err(_) => Err(Fail::new("the table is not read")),
-    }
+    let table = read_text(rt.alloc(), text)?;
+    assert_eq!(rt; table.head.states, 3);
+    assert_eq!(rt; table.head.range, 2);
+    assert_eq!(rt; table.head.root, 1);
+    assert!(rt; table.rows.len() == 3);
+    assert!(rt; table.lines.len() == 3);
+    assert_eq!(rt; table.lines[0], 6);
+    assert_eq!(rt; table.lines[2], 9);
+    assert_eq!(rt; table.rows[0].channel, 63);
+    assert_eq!(rt; table.rows[1].kind, 2);
+    assert_eq!(rt; table.rows[2].to, 2);
+    Ok(())
 }
 
 #[test]
 fn settings_come_first_and_in_order(rt: HostRuntime) {
     let heap = rt.alloc();
-    assert_eq!(rt; fault(heap, ""), Some(TextFault::Line(1, Expected::States)));
-    assert_eq!(rt;
-        fault(heap, "# only a comment\n"),
-        Some(TextFault::Line(2, Expected::States))
-    );
-    assert_eq!(rt;
-        fault(heap, "range 2\n"),
-        Some(TextFault::Line(1, Expected::States))
-    );
-    assert_eq!(rt;
-        fault(heap, "states 1\nroot 0\n"),
-        Some(TextFault::Line(2, Expected::Range))
-    );
-    assert_eq!(rt;
-        fault(heap, "states 1\nrange 1\n"),
-        Some(TextFault::Line(3, Expected::Root))
-    );
-    assert_eq!(rt;
-        fault(heap, "states\n"),
-        Some(TextFault::Line(1, Expected::States))
-    );
-    assert_eq!(rt;
-        fault(heap, "states 4294967296\n"),
-        Some(TextFault::Line(1, Expected::States))
-    );
-    assert_eq!(rt;
-        fault(heap, "states 1\nrange 256\n"),
-        Some(TextFault::Line(2, Expected::Range))
-    );
-    assert_eq!(rt;
-        fault(heap, "states +1\n"),
-        Some(TextFault::Line(1, Expected::States))
-    );
-    assert_eq!(rt;
-        fault(heap, "states 1 2\n"),
-        Some(TextFault::Line(1, Expected::LineEnd))
-    );
+    let cases = [
+        ("", 1, Expected::States),
+        ("# only a comment\n", 2, Expected::States),
+        ("range 2\n", 1, Expected::States),
+        ("states 1\nroot 0\n", 2, Expected::Range),
+        ("states 1\nrange 1\n", 3, Expected::Root),
+        ("states\n", 1, Expected::States),
+        ("states 4294967296\n", 1, Expected::States),
+        ("states 1\nrange 256\n", 2, Expected::Range),
+        ("states +1\n", 1, Expected::States),
+        ("states 1 2\n", 1, Expected::LineEnd),
+    ];
+    for (text, line, expected) in cases {
+        assert_eq!(rt; fault(heap, text), Some(TextFault::Line(line, expected)));
+    }
 }
 
 #[test]
