@@ -20,6 +20,7 @@ impl fmt::Display for Failure {
     }
 }
 
+// The library has two errors of memory, and no bound that takes both: an impl for each.
 impl From<AllocError> for Failure {
     fn from(_error: AllocError) -> Failure {
         Failure::Memory

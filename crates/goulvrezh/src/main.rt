@@ -6,7 +6,7 @@ mod failure;
 mod report;
 
 use crate::failure::Failure;
-use crate::report::{MOST_STATES, survey_text};
+use crate::report::{MOST_STATES, Report};
 use std::process::ExitCode;
 use std::{env, fs};
 
@@ -39,7 +39,10 @@ fn run(rt: &HostRuntime) -> Result<(), Failure> {
     let words: Vec<String> = env::args(rt)?.skip(1).collect(heap)?;
     let words: Vec<&str> = words.iter().map(|word| word.as_str()).collect(heap)?;
     match words.as_slice() {
-        [] => survey_text(rt, example::NAME, example::TEXT, MOST_STATES),
+        [] => {
+            let name = example::NAME;
+            Report { rt, name }.survey_text(example::TEXT, MOST_STATES)
+        }
         ["help", ..] => Ok(rt.println(HELP)?),
         ["survey", path] => survey_file(rt, path, MOST_STATES),
         ["survey", path, word] => survey_file(rt, path, capacity(rt, word)?),
@@ -63,5 +66,5 @@ fn survey_file(rt: &HostRuntime, path: &str, capacity: usize) -> Result<(), Fail
     let text = fs::read_to_string(rt, path).try_map_err(|error| {
         Ok(Failure::Told(format!(in rt.alloc(); "{path}: cannot be read: {error}")?))
     })?;
-    survey_text(rt, path, text.as_str(), capacity)
+    Report { rt, name: path }.survey_text(text.as_str(), capacity)
 }

@@ -13,32 +13,87 @@ use table_text::text::{TextTable, read_text};
 // The most states that a survey lists.
 pub(crate) const MOST_STATES: usize = 65535;
 
-// Surveys the table that a text spells.
-pub(crate) fn survey_text(
-    rt: &HostRuntime,
-    name: &str,
-    text: &str,
-    capacity: usize,
-) -> Result<(), Failure> {
-    let heap = rt.alloc();
-    let table = read_text(heap, text).try_map_err(|fault| {
-        Ok(Failure::Told(format!(in heap; "{name}: {fault}")?))
-    })?;
-    survey_table(rt, name, &table, capacity)
+// A report on what goes by a name, to wherever the program prints.
+#[derive(Clone, Copy)]
+pub(crate) struct Report<'a> {
+    pub(crate) rt: &'a HostRuntime,
+    pub(crate) name: &'a str,
 }
 
-fn survey_table(
-    rt: &HostRuntime,
-    name: &str,
-    text: &TextTable,
-    capacity: usize,
-) -> Result<(), Failure> {
-    let rows = text.rows.as_slice();
-    if let Err(fault) = check(text.head, rows) {
-        return refused(rt, name, text, fault);
+impl<'a> Report<'a> {
+    // Surveys the table that a text spells.
+    pub(crate) fn survey_text(self, text: &str, capacity: usize) -> Result<(), Failure> {
+        let Report { rt, name } = self;
+        let table = read_text(rt.alloc(), text).try_map_err(|fault| {
+            Ok(Failure::Told(format!(in rt.alloc(); "{name}: {fault}")?))
+        })?;
+        self.survey_table(&table, capacity)
     }
-    println!(rt; "source {name}")?;
-    survey_source(rt, name, &Table::new(text.head, rows), capacity)
+
+    fn survey_table(self, text: &TextTable, capacity: usize) -> Result<(), Failure> {
+        let Report { rt, name } = self;
+        let rows = text.rows.as_slice();
+        if let Err(fault) = check(text.head, rows) {
+            return self.refused(text, fault);
+        }
+        println!(rt; "source {name}")?;
+        self.survey_source(&Table::new(text.head, rows), capacity)
+    }
+
+    // What is said of a table that breaks a rule. The check tells a row that there is, so it has a line.
+    fn refused(self, text: &TextTable, fault: Fault) -> Result<(), Failure>
+        requires { Checked text.now.head text.now.rows.items (Err fault) }
+    {
+        let Report { rt, name } = self;
+        let heap = rt.alloc();
+        let number = fault.number();
+        match fault {
+            Fault::Head => Err(Failure::Told(format!(in heap;
+                "{name}: refused {number} 0: the states are 1 to 65536, the range is 1 to 32, and the root is a state"
+            )?)),
+            Fault::Row(row) => {
+                let lines = text.lines.as_slice();
+                let line = lines[row - 1];
+                let what = wrong_row(row == lines.len());
+                Err(Failure::Told(format!(in heap;
+                    "{name}: line {line}: refused {number} {row}: {what}"
+                )?))
+            }
+        }
+    }
+
+    // The four numbers of a source, then the states that it reaches with their steps.
+    fn survey_source<S: Source>(self, source: &S, capacity: usize) -> Result<(), Failure> {
+        let Report { rt, name } = self;
+        let heap = rt.alloc();
+        let extent = source.extent();
+        let range = source.range();
+        let root = source.root();
+        let width = source.width();
+        println!(rt; "states {extent}")?;
+        println!(rt; "range {range}")?;
+        println!(rt; "root {root}")?;
+        println!(rt; "width {width}")?;
+        let room = capacity.min(MOST_STATES).min(extent as usize);
+        let mut states = vec![in heap; 0u32; room]?;
+        match survey(source, states.as_mut_slice()) {
+            Ok(count) => {
+                println!(rt; "reached {count}")?;
+                let unreached = (extent as usize).saturating_sub(count);
+                println!(rt; "unreached {unreached}")?;
+                states.truncate(count);
+                print_states(rt, source, states.as_slice())
+            }
+            Err(refusal) => {
+                println!(rt; "reached more than {room}")?;
+                print_states(rt, source, states.as_slice())?;
+                let number = refusal.number();
+                Err(Failure::Told(format!(in heap;
+                    "{name}: refused {number}: more states are reached than there is room for, which is {room}"
+                )?))
+            }
+        }
+    }
 }
 
 // What is wrong with the row that is told.
@@ -47,64 +102,6 @@ fn wrong_row(last: bool) -> &'static str {
         "the last row can't follow those before it, or leaves a receive without all its values"
     } else {
         "this row can't follow those before it"
-    }
-}
-
-// What is said of a table that breaks a rule. The check tells a row that there is, so it has a line.
-fn refused(rt: &HostRuntime, name: &str, text: &TextTable, fault: Fault) -> Result<(), Failure>
-    requires { Checked text.now.head text.now.rows.items (Err fault) }
-{
-    let heap = rt.alloc();
-    let number = fault.number();
-    match fault {
-        Fault::Head => Err(Failure::Told(format!(in heap;
-            "{name}: refused {number} 0: the states are 1 to 65536, the range is 1 to 32, and the root is a state"
-        )?)),
-        Fault::Row(row) => {
-            let lines = text.lines.as_slice();
-            let line = lines[row - 1];
-            let what = wrong_row(row == lines.len());
-            Err(Failure::Told(format!(in heap;
-                "{name}: line {line}: refused {number} {row}: {what}"
-            )?))
-        }
-    }
-}
-
-// The four numbers of a source, then the states that it reaches with their steps.
-fn survey_source<S: Source>(
-    rt: &HostRuntime,
-    name: &str,
-    source: &S,
-    capacity: usize,
-) -> Result<(), Failure> {
-    let heap = rt.alloc();
-    let extent = source.extent();
-    let range = source.range();
-    let root = source.root();
-    let width = source.width();
-    println!(rt; "states {extent}")?;
-    println!(rt; "range {range}")?;
-    println!(rt; "root {root}")?;
-    println!(rt; "width {width}")?;
-    let room = capacity.min(MOST_STATES).min(extent as usize);
-    let mut states = vec![in heap; 0u32; room]?;
-    match survey(source, states.as_mut_slice()) {
-        Ok(count) => {
-            println!(rt; "reached {count}")?;
-            let unreached = (extent as usize).saturating_sub(count);
-            println!(rt; "unreached {unreached}")?;
-            states.truncate(count);
-            print_states(rt, source, states.as_slice())
-        }
-        Err(refusal) => {
-            println!(rt; "reached more than {room}")?;
-            print_states(rt, source, states.as_slice())?;
-            let number = refusal.number();
-            Err(Failure::Told(format!(in heap;
-                "{name}: refused {number}: more states are reached than there is room for, which is {room}"
-            )?))
-        }
     }
 }
 

@@ -53,6 +53,7 @@ impl fmt::Display for TextFault {
     }
 }
 
+// The library has two errors of memory, and no bound that takes both: an impl for each.
 impl From<AllocError> for TextFault {
     ghost from_gives = { λ _ fault. fault ≡ Memory };
 

@@ -43,6 +43,7 @@ impl<'a> Model for Words<'a> {
 }
 
 impl<'a> Words<'a> {
+    // Those before a comment.
     pub(crate) fn of(heap: Global, line: &'a str) -> Result<Words<'a>, AllocError> {
         let words: Vec<&str> = before_comment(line).split_whitespace().collect(heap)?;
         Ok(Words { words })
@@ -68,6 +69,7 @@ impl<'a> Words<'a> {
         number(self.at(i)).ok_or(expected)
     }
 
+    // The kind at a place.
     fn kind_at(&self, i: usize) -> Result<Kind, Expected>
         ensures { result ≡ ok_or (named_kind (word_in self.now i)) Expected.Kind }
     {

@@ -8,7 +8,7 @@ ghost use Rattle.table_text.specs.Words.{Parses, value_of};
 use std::num::ParseIntError;
 use std::str::FromStr;
 
-// A type of unsigned numbers. A contract on it holds of each type with that type's bits.
+// A type of unsigned numbers. What is ensured for it is ensured for u8 with 8 bits and for u32 with 32.
 pub(crate) trait Unsigned: Copy + FromStr<Err = ParseIntError> {
     // how many bits it has
     ghost bits: { ℕ };
