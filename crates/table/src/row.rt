@@ -13,8 +13,9 @@ pub struct Head {
     pub root: u32,
 }
 
-// A step of the state `from`, or one value of a receive. The kind is a number and no `Kind`, by the
-// rule that rows are plain numbers: the check is to be asked of rows whose kind has no meaning too.
+// A step of the state `from`, or one value of a receive. The kind is a number, of which `Kind` says
+// what it means, by the project's rule that rows are plain numbers: the check is asked of rows whose
+// kind means nothing too.
 #[derive(Clone, Copy, Debug)]
 pub struct Row {
     pub from: u32,

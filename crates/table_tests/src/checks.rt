@@ -42,6 +42,7 @@ fn bad_rows_are_told_at_their_place(rt: HostRuntime) {
             value: 1,
             ..silent(0, 0)
         },
+        // numbers that no kind has
         Row {
             kind: 3,
             ..silent(0, 0)

@@ -23,59 +23,47 @@ pub(crate) fn reached<S: Source>(source: &S, list: &mut [u32]) -> Result<usize, 
     survey(source, list).map_err(|refusal| refusal.number())
 }
 
+// What a survey of the five states answers that is lent a list of N, and the list afterwards.
+fn surveyed<const N: usize>() -> (Result<usize, u8>, [u32; N]) {
+    let rows = rows();
+    let mut list = [99u32; N];
+    let answer = reached(&Table::new(head(5, 2, 2), &rows), &mut list);
+    (answer, list)
+}
+
 #[test]
 fn order_of_step_and_value(rt: HostRuntime) {
-    let rows = rows();
-    let mut list = [99u32; 6];
-    assert_eq!(rt;
-        reached(&Table::new(head(5, 2, 2), &rows), &mut list),
-        Ok(4)
-    );
+    let (answer, list) = surveyed();
+    assert_eq!(rt; answer, Ok(4));
     assert_eq!(rt; list, [2, 4, 1, 0, 99, 99]);
 }
 
 #[test]
 fn exactly_enough_room(rt: HostRuntime) {
-    let rows = rows();
-    let mut list = [99u32; 4];
-    assert_eq!(rt;
-        reached(&Table::new(head(5, 2, 2), &rows), &mut list),
-        Ok(4)
-    );
+    let (answer, list) = surveyed();
+    assert_eq!(rt; answer, Ok(4));
     assert_eq!(rt; list, [2, 4, 1, 0]);
 }
 
 #[test]
 fn one_more_than_enough(rt: HostRuntime) {
-    let rows = rows();
-    let mut list = [99u32; 5];
-    assert_eq!(rt;
-        reached(&Table::new(head(5, 2, 2), &rows), &mut list),
-        Ok(4)
-    );
+    let (answer, list) = surveyed();
+    assert_eq!(rt; answer, Ok(4));
     assert_eq!(rt; list, [2, 4, 1, 0, 99]);
 }
 
 #[test]
 fn one_too_short(rt: HostRuntime) {
-    let rows = rows();
-    let mut list = [99u32; 3];
-    assert_eq!(rt;
-        reached(&Table::new(head(5, 2, 2), &rows), &mut list),
-        Err(14)
-    );
+    let (answer, list) = surveyed();
+    assert_eq!(rt; answer, Err(14));
     assert_eq!(rt; list, [2, 4, 1]);
 }
 
 #[test]
 fn no_room_at_all(rt: HostRuntime) {
-    let rows = rows();
-    let mut list = [0u32; 0];
-    assert_eq!(rt;
-        reached(&Table::new(head(5, 2, 2), &rows), &mut list),
-        Err(14)
-    );
-    assert_eq!(rt; reached(&Still::new(3), &mut list), Err(14));
+    let (answer, _) = surveyed::<0>();
+    assert_eq!(rt; answer, Err(14));
+    assert_eq!(rt; reached(&Still::new(3), &mut []), Err(14));
 }
 
 #[test]

@@ -44,21 +44,19 @@ fn degrees(rt: HostRuntime) {
 fn labels(rt: HostRuntime) {
     let rows = rows();
     let table = Table::new(head(5, 2, 3), &rows);
-    assert!(rt;
-        same_label(
-            table.label(0, 0),
-            Label::Send {
-                channel: 7,
-                value: 1,
-            },
-        )
+    assert_eq!(rt;
+        table.label(0, 0),
+        Label::Send {
+            channel: 7,
+            value: 1,
+        }
     );
-    assert!(rt; same_label(table.label(0, 1), Label::Receive { channel: 8 }));
-    assert!(rt; same_label(table.label(0, 2), Label::Silent));
-    assert!(rt; same_label(table.label(0, 3), Label::Silent));
-    assert!(rt; same_label(table.label(3, 0), Label::Receive { channel: 9 }));
-    assert!(rt; same_label(table.label(9, 0), Label::Silent));
-    assert!(rt; same_label(table.label(4294967295, 4294967295), Label::Silent));
+    assert_eq!(rt; table.label(0, 1), Label::Receive { channel: 8 });
+    assert_eq!(rt; table.label(0, 2), Label::Silent);
+    assert_eq!(rt; table.label(0, 3), Label::Silent);
+    assert_eq!(rt; table.label(3, 0), Label::Receive { channel: 9 });
+    assert_eq!(rt; table.label(9, 0), Label::Silent);
+    assert_eq!(rt; table.label(4294967295, 4294967295), Label::Silent);
 }
 
 // A silent step and a send land alike at both values, a receive by its row, and at a value that

@@ -18,7 +18,7 @@ fn before_comment(line: &str) -> &str
     line.split_once('#').map_or(line, |(front, _)| front)
 }
 
-// The kind that a word names.
+// The kind that a word names. It is no `FromStr`: the words are this crate's, and `Kind` is not.
 fn kind(word: &str) -> Option<Kind>
     ensures { result ≡ named_kind word.now }
 {

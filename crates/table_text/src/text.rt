@@ -9,7 +9,8 @@ use crate::line::Words;
 use std::alloc::{AllocError, Global};
 use table::row::{Head, Row};
 
-// How many of the three settings have been read.
+// How many of the three settings have been read. An enum, and neither types as states nor a closure
+// for each: one loop over the lines meets all four, and one contract says what a line says at each.
 #[derive(Clone, Copy)]
 enum Place {
     States,
@@ -32,7 +33,8 @@ impl Place {
     }
 }
 
-// A table as its text says it, and the line of each row, counted from 1.
+// A table as its text says it, and the line of each row, counted from 1. Two lists, since the rows
+// are lent to the check as one slice; there are as many lines as rows.
 #[derive(Drop)]
 pub struct TextTable {
     pub head: Head,
