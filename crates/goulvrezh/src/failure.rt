@@ -1,5 +1,5 @@
 // What ends the program early.
-use std::alloc::{AllocError, AllocFailed};
+use std::alloc::AllocError;
 use std::{fmt, io};
 
 #[derive(Drop)]
@@ -20,15 +20,8 @@ impl fmt::Display for Failure {
     }
 }
 
-// The library has two errors of memory, and no bound that takes both: an impl for each.
 impl From<AllocError> for Failure {
     fn from(_error: AllocError) -> Failure {
-        Failure::Memory
-    }
-}
-
-impl<T: Drop> From<AllocFailed<T>> for Failure {
-    fn from(_error: AllocFailed<T>) -> Failure {
         Failure::Memory
     }
 }
