@@ -1,16 +1,17 @@
 -- What a filtered range gives: the numbers that pass, in their order.
 use Rattle.std.proofs.Common.{◌≡◌, ◌↔◌, ℕ, ◌+◌, ◌-◌, ◌<◌, ◌≤◌, Bool, true, false, List, [], ◌∷◌, length, Some, None, Option, Bor, sym, ap, ◌∙◌, subst, arith}
 use Rattle.std.proofs.iter.Yields.{nat_range_steps}
-use Rattle.std.proofs.lemmas.Iterator.{first_from_Range}
-use Rattle.std.specs.Fn.{Called, CalledAt}
-use Rattle.std.specs.Iterator.{Yields, SkipsThenYields, Drains, FindsItem}
+use Rattle.std.proofs.lemmas.Iterator.{first_from_Range, serves_from_Range}
+use Rattle.std.specs.Fn.{Called, CalledAt, TakesAt}
+use Rattle.std.specs.Iterator.{Yields, SkipsThenYields, Drains, FindsItem, CallableAtEachTurn}
 use Rattle.std.specs.Iterator.Adapters.{filter_steps, filter_source, filter_callee}
 use Rattle.std.specs.List.{FoldsTo}
+use Rattle.std.specs.Option.{MatchOption}
 use Rattle.std.specs.declared.iter.Filter.{Filter}
 use Rattle.std.specs.declared.ops.Range.{Range}
 use denote.Param.Members.{Mut, Shared}
 use Rattle.choose.specs.Choice.{count, chosen, Chosen}
-use Rattle.choose.specs.Tests.{Decides}
+use Rattle.choose.specs.Tests.{Callable, Decides}
 use Rattle.choose.proofs.Laws.{count_sum, count_none, count_more, chosen_at, chosen_none}
 
 -- a count stays where no number passes
@@ -19,92 +20,94 @@ count_stays p m n l f =
     let whole : m + (n - m) ≡ n = omega arith in
     omega (arith, ap (count p) whole, count_sum p m (n - m), count_none (λ i. p (m + i)) (n - m) (λ j k. f (m + j) (omega arith) (omega arith)))
 
--- the calls of a test, as the bound `Fn` has them, and as a filter makes them
-module _ {F : Type 0} (shared : Shared F (Bor ℕ × Unit {0}) Bool) (g : Mut F (Bor ℕ × Unit {0}) Bool)
-    (stays : (f : F) (a : Bor ℕ × Unit {0}) (r : Bool) (q : F) → Called g f a r q → q ≡ f)
-    (told : (f : F) (a : Bor ℕ × Unit {0}) (r : Bool) → shared.post f a r ↔ ((q : F) × Called g f a r q))
-    (f : F) (holds : ℕ → Bool) (bound : ℕ) (decides : Decides shared f bound holds) where
-  same_at : (x : ℕ) (r : Bool) (q : F) → CalledAt g f x r q → q ≡ f
-  same_at x r q k = stays f (k.shown, tt) r q k.called
+-- a test's calls: as the bound `Fn` has them in `test`, and as an iterator makes them in `g`
+module _ {F : Type 0} (test : Shared F (Bor ℕ × Unit {0}) Bool) (g : Mut F (Bor ℕ × Unit {0}) Bool)
+    (stays : (f : F) (a : Bor ℕ × Unit {0}) (r : Bool) (q : F) → Called g f a r q → q ≡ f) where
+  -- an iterator over a range may make them
+  pub callable_filter : (f : F) (bound : ℕ) (s : Range ℕ) (callee : F) → ((f : F) (a : Bor ℕ × Unit {0}) → test.pre f a → g.pre f a) → callee ≡ f → s ≡ record { start = 0; end = bound } → Callable test f bound
+      → CallableAtEachTurn nat_range_steps (λ p x q. (r : Bool) × CalledAt g p x r q) (λ p x. TakesAt g p x) s callee
+  callable_filter f bound s callee asks same range may =
+      let end = ap (λ r. r.end) range in
+      serves_from_Range (λ x q k. stays callee (k.1.shown, tt) k.0 q k.1.called) (λ x a b y e. asks callee (y, tt) (subst (λ f. test.pre f (y, tt)) (sym same) (may y (omega (arith, e, end)))))
 
-  decides_at : (x : ℕ) (r : Bool) (q : F) → CalledAt g f x r q → x < bound → holds x ≡ r
-  decides_at x r q k l = ap holds (sym k.shows) ∙ sym (decides k.shown r (omega (arith, k.shows)) ((told f (k.shown, tt) r).1 (q, k.called)))
+  module _ (told : (f : F) (a : Bor ℕ × Unit {0}) (r : Bool) → test.post f a r ↔ ((q : F) × Called g f a r q))
+      (f : F) (holds : ℕ → Bool) (bound : ℕ) (decides : Decides test f bound holds) where
+    same_at : (x : ℕ) (r : Bool) (q : F) → CalledAt g f x r q → q ≡ f
+    same_at x r q k = stays f (k.shown, tt) r q k.called
 
-  -- where the iterator stands: so many numbers have passed below its start
-  pub record At (s : Filter (Range ℕ) F) (passed : ℕ) : Type 0 where
-    pub callee : filter_callee s ≡ f
-    pub end : (filter_source s).end ≡ bound
-    pub within : (filter_source s).start ≤ bound
-    pub counted : count holds (filter_source s).start ≡ passed
+    decides_at : (x : ℕ) (r : Bool) (q : F) → CalledAt g f x r q → x < bound → holds x ≡ r
+    decides_at x r q k l = ap holds (sym k.shows) ∙ sym (decides k.shown r (omega (arith, k.shows)) ((told f (k.shown, tt) r).1 (q, k.called)))
 
-  pub begins_filter : (s : Filter (Range ℕ) F) → filter_callee s ≡ f → filter_source s ≡ record { start = 0; end = bound } → At s 0
-  begins_filter s callee source = record {
-    callee = callee;
-    end = ap (λ r. r.end) source;
-    within = omega (arith, ap (λ r. r.start) source);
-    counted = ap (λ r. count holds r.start) source;
-  }
+    -- what is found in a range is the first number there that passes
+    first_found : (s u : Range ℕ) (r : Option ℕ) → FindsItem nat_range_steps g s f r u
+        → MatchOption r ((k : ℕ) → s.start ≤ k → k < s.end → k < bound → holds k ≡ false) (λ i. (s.start ≤ i) × (i < s.end) × (i < bound → holds i ≡ true) × ((k : ℕ) → s.start ≤ k → k < i → k < bound → holds k ≡ false))
+    first_found s u r d = first_from_Range s u f r (λ x. x < bound → holds x ≡ true) (λ x. x < bound → holds x ≡ false) d (λ x q k. decides_at x true q k) (λ x q k. (same_at x false q k, decides_at x false q k))
 
-  same_end : (xs : List ℕ) (s t : Range ℕ) → Yields nat_range_steps s xs t → t.end ≡ s.end
-  same_end [] s t y = ap (λ r. r.end) (sym y)
-  same_end (x ∷ xs) s t (j, e, y) = same_end xs j t y ∙ e.0
+    -- where a filter stands: so many numbers have passed below its start
+    record At (s : Filter (Range ℕ) F) (passed : ℕ) : Type 0 where
+      callee : filter_callee s ≡ f
+      end : (filter_source s).end ≡ bound
+      within : (filter_source s).start ≤ bound
+      counted : count holds (filter_source s).start ≡ passed
 
-  same_callee : (xs : List ℕ) (p q : F) → p ≡ f → FoldsTo (λ p x q. CalledAt g p x false q) p xs q → q ≡ f
-  same_callee [] p q same c = sym c ∙ same
-  same_callee (x ∷ xs) p q same (j, e, c) = same_callee xs j q (same_at x false j (subst (λ k. CalledAt g k x false j) same e)) c
+    same_end : (xs : List ℕ) (s t : Range ℕ) → Yields nat_range_steps s xs t → t.end ≡ s.end
+    same_end [] s t y = ap (λ r. r.end) (sym y)
+    same_end (x ∷ xs) s t (j, e, y) = same_end xs j t y ∙ e.0
 
-  -- the next number that comes is the next that passes
-  passes : (s t : Filter (Range ℕ) F) (n x : ℕ) → At s n → filter_steps nat_range_steps g s (Some x) t → Chosen holds bound n x × At t (n + 1)
-  passes s t n x at (xs, j, y, c, called) =
-      let start = subst (λ k. FoldsTo (λ p x q. CalledAt g p x false q) k xs j) at.callee c in
-      let is = same_callee xs (filter_callee s) j at.callee c in
-      let found = first_from_Range (filter_source s) (filter_source t) f (Some x) (λ x. x < bound → holds x ≡ true) (λ x. x < bound → holds x ≡ false) (xs, j, y, start, (filter_callee t, called)) (λ x q k. decides_at x true q k) (λ x q k. (same_at x false q k, decides_at x false q k)) in
-      let below : x < bound = omega (arith, found.1, at.end) in
-      let after : count holds x ≡ n = count_stays holds (filter_source s).start x found.0 (λ k a b. found.3 k a b (omega (arith, below))) ∙ at.counted in
-      let next : (filter_source t).start ≡ x + 1 = omega (arith, y.2.1.1, y.2.1.2) in (
-        record { below = below; passes = found.2 below; after = after },
-        record {
-          callee = same_at x true (filter_callee t) (subst (λ k. CalledAt g k x true (filter_callee t)) is called);
-          end = y.2.0 ∙ same_end xs (filter_source s) y.0 y.1 ∙ at.end;
-          within = omega (arith, next, below);
-          counted = ap (count holds) next ∙ count_more holds x (found.2 below) ∙ ap (λ k. k + 1) after;
-        },
-      )
+    same_callee : (xs : List ℕ) (p q : F) → p ≡ f → FoldsTo (λ p x q. CalledAt g p x false q) p xs q → q ≡ f
+    same_callee [] p q same c = sym c ∙ same
+    same_callee (x ∷ xs) p q same (j, e, c) = same_callee xs j q (same_at x false j (subst (λ k. CalledAt g k x false j) same e)) c
 
-  -- where none comes any more, none passes
-  ends : (s t : Filter (Range ℕ) F) (n : ℕ) → At s n → filter_steps nat_range_steps g s None t → count holds bound ≡ n
-  ends s t n at (xs, j, y, c, called) =
-      let start = subst (λ k. FoldsTo (λ p x q. CalledAt g p x false q) k xs j) at.callee c in
-      let found = first_from_Range (filter_source s) (filter_source t) f None (λ x. x < bound → holds x ≡ true) (λ x. x < bound → holds x ≡ false) (xs, j, y, start, tt) (λ x q k. decides_at x true q k) (λ x q k. (same_at x false q k, decides_at x false q k)) in
-      count_stays holds (filter_source s).start bound at.within (λ k a b. found k a (omega (arith, at.end)) b) ∙ at.counted
+    -- the next number that comes is the next that passes
+    passes : (s t : Filter (Range ℕ) F) (n x : ℕ) → At s n → filter_steps nat_range_steps g s (Some x) t → Chosen holds bound n x × At t (n + 1)
+    passes s t n x at (xs, j, y, c, called) =
+        let is = same_callee xs (filter_callee s) j at.callee c in
+        let found = first_found (filter_source s) (filter_source t) (Some x) (xs, j, y, subst (λ k. FoldsTo (λ p x q. CalledAt g p x false q) k xs j) at.callee c, (filter_callee t, called)) in
+        let below : x < bound = omega (arith, found.1, at.end) in
+        let after : count holds x ≡ n = count_stays holds (filter_source s).start x found.0 (λ k a b. found.3 k a b (omega (arith, below))) ∙ at.counted in
+        let next : (filter_source t).start ≡ x + 1 = omega (arith, y.2.1.1, y.2.1.2) in (
+          record { below = below; passes = found.2 below; after = after },
+          record {
+            callee = same_at x true (filter_callee t) (subst (λ k. CalledAt g k x true (filter_callee t)) is called);
+            end = y.2.0 ∙ same_end xs (filter_source s) y.0 y.1 ∙ at.end;
+            within = omega (arith, next, below);
+            counted = ap (count holds) next ∙ count_more holds x (found.2 below) ∙ ap (λ k. k + 1) after;
+          },
+        )
 
-  more : (xs : List ℕ) (s t : Filter (Range ℕ) F) (n : ℕ) → At s n → Yields (filter_steps nat_range_steps g) s xs t → At t (n + length xs)
-  more [] s t n at y = subst (λ k. At k (n + 0)) y (subst (At s) (omega arith) at)
-  more (x ∷ xs) s t n at (j, e, y) =
-      subst (At t) (omega arith) (more xs j t (n + 1) ((passes s j n x at e).1) y)
+    -- where none comes any more, none passes
+    ends : (s t : Filter (Range ℕ) F) (n : ℕ) → At s n → filter_steps nat_range_steps g s None t → count holds bound ≡ n
+    ends s t n at (xs, j, y, c, called) =
+        let found = first_found (filter_source s) (filter_source t) None (xs, j, y, subst (λ k. FoldsTo (λ p x q. CalledAt g p x false q) k xs j) at.callee c, tt) in
+        count_stays holds (filter_source s).start bound at.within (λ k a b. found k a (omega (arith, at.end)) b) ∙ at.counted
 
-  stood : (xs : List ℕ) (s t : Filter (Range ℕ) F) → At s 0 → Yields (filter_steps nat_range_steps g) s xs t → At t (length xs)
-  stood xs s t at y = subst (At t) (omega arith) (more xs s t 0 at y)
+    more : (xs : List ℕ) (s t : Filter (Range ℕ) F) (n : ℕ) → At s n → Yields (filter_steps nat_range_steps g) s xs t → At t (n + length xs)
+    more [] s t n at y = subst (λ k. At k (n + 0)) y (subst (At s) (omega arith) at)
+    more (x ∷ xs) s t n at (j, e, y) =
+        subst (At t) (omega arith) (more xs j t (n + 1) ((passes s j n x at e).1) y)
 
-  -- so many come as pass
-  pub counted_filter : (s : Filter (Range ℕ) F) (xs : List ℕ) → At s 0 → Drains (filter_steps nat_range_steps g) s xs → length xs ≡ count holds bound
-  counted_filter s xs at d = sym (ends d.1.0 d.0 (length xs) (stood xs s d.1.0 at d.1.1) d.1.2)
+    module _ (s : Filter (Range ℕ) F) (callee : filter_callee s ≡ f) (source : filter_source s ≡ record { start = 0; end = bound }) where
+      stood : (xs : List ℕ) (t : Filter (Range ℕ) F) → Yields (filter_steps nat_range_steps g) s xs t → At t (length xs)
+      stood xs t y =
+          let begins : At s 0 = record { callee = callee; end = ap (λ r. r.end) source; within = omega (arith, ap (λ r. r.start) source); counted = ap (λ r. count holds r.start) source } in
+          subst (At t) (omega arith) (more xs s t 0 begins y)
 
-  -- after k others comes the number that is chosen
-  pub chosen_filter : (s u : Filter (Range ℕ) F) (k : ℕ) (r : Option ℕ) → At s 0 → SkipsThenYields (filter_steps nat_range_steps g) s k r u → r ≡ chosen holds bound k
-  chosen_filter s u k None at (xs, y, few) =
-      let stands = stood xs s y.0 at y.1 in
-      sym (chosen_none holds bound k (omega (arith, ends y.0 u (length xs) stands y.2, few)))
-  chosen_filter s u k (Some x) at (xs, y, many) =
-      let stands = stood xs s y.0 at y.1 in
-      sym (chosen_at holds bound k x (subst (λ n. Chosen holds bound n x) many ((passes y.0 u (length xs) x stands y.2).0)))
+      -- so many come as pass
+      pub counted_filter : (xs : List ℕ) → Drains (filter_steps nat_range_steps g) s xs → length xs ≡ count holds bound
+      counted_filter xs d = sym (ends d.1.0 d.0 (length xs) (stood xs d.1.0 d.1.1) d.1.2)
 
-  -- the first that is found is the one that is chosen after none
-  pub chosen_find : (s u : Range ℕ) (r : Option ℕ) → s.start ≡ 0 → s.end ≡ bound → FindsItem nat_range_steps g s f r u → r ≡ chosen holds bound 0
-  chosen_find s u None start end d =
-      let found = first_from_Range s u f None (λ x. x < bound → holds x ≡ true) (λ x. x < bound → holds x ≡ false) d (λ x q k. decides_at x true q k) (λ x q k. (same_at x false q k, decides_at x false q k)) in
-      sym (chosen_none holds bound 0 (omega (arith, count_none holds bound (λ j l. found j (omega arith) (omega arith) l))))
-  chosen_find s u (Some x) start end d =
-      let found = first_from_Range s u f (Some x) (λ x. x < bound → holds x ≡ true) (λ x. x < bound → holds x ≡ false) d (λ x q k. decides_at x true q k) (λ x q k. (same_at x false q k, decides_at x false q k)) in
-      let below : x < bound = omega (arith, found.1) in
-      sym (chosen_at holds bound 0 x (record { below = below; passes = found.2 below; after = count_none holds x (λ j l. found.3 j (omega arith) l (omega arith)) }))
+      -- after k others comes the number that is chosen
+      pub chosen_filter : (u : Filter (Range ℕ) F) (k : ℕ) (r : Option ℕ) → SkipsThenYields (filter_steps nat_range_steps g) s k r u → r ≡ chosen holds bound k
+      chosen_filter u k None (xs, y, few) = sym (chosen_none holds bound k (omega (arith, ends y.0 u (length xs) (stood xs y.0 y.1) y.2, few)))
+      chosen_filter u k (Some x) (xs, y, many) =
+          sym (chosen_at holds bound k x (subst (λ n. Chosen holds bound n x) many ((passes y.0 u (length xs) x (stood xs y.0 y.1) y.2).0)))
+
+    -- the first that is found is the one that is chosen after none
+    pub chosen_find : (s u : Range ℕ) (r : Option ℕ) → s.start ≡ 0 → s.end ≡ bound → FindsItem nat_range_steps g s f r u → r ≡ chosen holds bound 0
+    chosen_find s u None start end d =
+        let found = first_found s u None d in
+        sym (chosen_none holds bound 0 (omega (arith, count_none holds bound (λ j l. found j (omega arith) (omega arith) l))))
+    chosen_find s u (Some x) start end d =
+        let found = first_found s u (Some x) d in
+        let below : x < bound = omega (arith, found.1) in
+        sym (chosen_at holds bound 0 x (record { below = below; passes = found.2 below; after = count_none holds x (λ j l. found.3 j (omega arith) l (omega arith)) }))
