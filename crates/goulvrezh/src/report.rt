@@ -1,4 +1,5 @@
 // What a survey says, line by line. The first words of a line are stable, for scripts to read.
+ghost use Rattle.std.specs.Prelude.{◌≡◌, vec_len};
 ghost use Rattle.table.specs.Steps.{Checked};
 
 use crate::failure::Failure;
@@ -30,7 +31,9 @@ impl<'a> Report<'a> {
         self.survey_table(&table, capacity)
     }
 
-    fn survey_table(self, text: &TextTable, capacity: usize) -> Result<(), Failure> {
+    fn survey_table(self, text: &TextTable, capacity: usize) -> Result<(), Failure>
+        requires { vec_len text.now.lines ≡ vec_len text.now.rows }
+    {
         let Report { rt, name } = self;
         let rows = text.rows.as_slice();
         if let Err(fault) = check(text.head, rows) {
@@ -42,7 +45,8 @@ impl<'a> Report<'a> {
 
     // What is said of a table that breaks a rule. The check tells a row that there is, so it has a line.
     fn refused(self, text: &TextTable, fault: Fault) -> Result<(), Failure>
-        requires { Checked text.now.head text.now.rows.items (Err fault) }
+        requires each { vec_len text.now.lines ≡ vec_len text.now.rows }
+        requires checked { Checked text.now.head text.now.rows.items (Err fault) }
     {
         let Report { rt, name } = self;
         let heap = rt.alloc();

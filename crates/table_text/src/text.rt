@@ -33,28 +33,28 @@ impl Place {
     }
 }
 
-// A table as its text says it, and the line of each row, counted from 1. Two lists, since the rows
-// are lent to the check as one slice; there are as many lines as rows.
+// A table as its text says it, and the line of each row, counted from 1.
 #[derive(Drop)]
 pub struct TextTable {
     pub head: Head,
     pub rows: Vec<Row>,
     pub lines: Vec<usize>,
+}
+
+// Rows, and as many lines. Two lists, since the rows are lent to the check as one slice.
+#[derive(Drop)]
+struct NumberedRows {
+    rows: Vec<Row>,
+    lines: Vec<usize>,
     ghost each: { vec_len lines ≡ vec_len rows },
 }
 
-impl TextTable {
-    fn new(heap: Global) -> TextTable
+impl NumberedRows {
+    fn new(heap: Global) -> NumberedRows
         ensures rows { result.rows.items ≡ [] }
         ensures lines { result.lines.items ≡ [] }
     {
-        let head = Head {
-            states: 0,
-            range: 0,
-            root: 0,
-        };
-        TextTable {
-            head,
+        NumberedRows {
             rows: Vec::new(heap),
             lines: Vec::new(heap),
         }
@@ -62,16 +62,15 @@ impl TextTable {
 
     // Adds a row with its line, or leaves both lists as they are.
     fn push(&mut self, row: Row, line: usize) -> Result<(), AllocError>
-        ensures head { self.new.head ≡ self.old.head }
         ensures rows { OnOk result (self.new.rows.items ≡ self.old.rows.items ++ row ∷ []) }
         ensures lines { OnOk result (self.new.lines.items ≡ self.old.lines.items ++ line ∷ []) }
         ensures err_rows { OnErr result (self.new.rows.items ≡ self.old.rows.items) }
         ensures err_lines { OnErr result (self.new.lines.items ≡ self.old.lines.items) }
     {
-        // room comes first, so that a row never stands without its line
-        self.rows.reserve(1)?;
-        self.lines.push(line)?;
-        self.rows.push(row).unwrap();
+        // room for the line comes first, so that a row never stands without its line
+        self.lines.reserve(1)?;
+        self.rows.push(row)?;
+        self.lines.push(line).unwrap();
         Ok(())
     }
 }
@@ -79,43 +78,44 @@ impl TextTable {
 #[derive(Drop)]
 struct Reader {
     place: Place,
-    table: TextTable,
+    head: Head,
+    numbered: NumberedRows,
 }
 
 impl Reader {
     // One line that is not empty.
     fn read(&mut self, words: &Words, line: usize) -> Result<(), TextFault>
-        ensures lines { OnOk result (AddsAtMost line self.old.table.lines.items self.new.table.lines.items) }
+        ensures lines { OnOk result (AddsAtMost line self.old.numbered.lines.items self.new.numbered.lines.items) }
         ensures told { IfErr result (Tells line) }
     {
         let row = self
             .read_words(words)
             .map_err(|expected| TextFault::Line(line, expected))?;
         if let Some(row) = row {
-            self.table.push(row, line)?;
+            self.numbered.push(row, line)?;
         }
         Ok(())
     }
 
     // A setting is kept, and a row is handed back.
     fn read_words(&mut self, words: &Words) -> Result<Option<Row>, Expected>
-        ensures value { result ≡ told_row (line_at self.old.place self.old.table.head words.now) }
-        ensures place { self.new.place ≡ next_place self.old.place (line_at self.old.place self.old.table.head words.now) }
-        ensures head { self.new.table.head ≡ next_head self.old.table.head (line_at self.old.place self.old.table.head words.now) }
-        ensures rows { self.new.table.rows ≡ self.old.table.rows }
-        ensures lines { self.new.table.lines ≡ self.old.table.lines }
+        ensures value { result ≡ told_row (line_at self.old.place self.old.head words.now) }
+        ensures place { self.new.place ≡ next_place self.old.place (line_at self.old.place self.old.head words.now) }
+        ensures head { self.new.head ≡ next_head self.old.head (line_at self.old.place self.old.head words.now) }
+        ensures rows { self.new.numbered.rows ≡ self.old.numbered.rows }
+        ensures lines { self.new.numbered.lines ≡ self.old.numbered.lines }
     {
         match self.place {
             Place::States => {
-                self.table.head.states = words.setting("states", Expected::States)?;
+                self.head.states = words.setting("states", Expected::States)?;
                 self.place = Place::Range;
             }
             Place::Range => {
-                self.table.head.range = words.setting("range", Expected::Range)?;
+                self.head.range = words.setting("range", Expected::Range)?;
                 self.place = Place::Root;
             }
             Place::Root => {
-                self.table.head.root = words.setting("root", Expected::Root)?;
+                self.head.root = words.setting("root", Expected::Root)?;
                 self.place = Place::Rows;
             }
             Place::Rows => return Ok(Some(words.row()?)),
@@ -140,7 +140,12 @@ pub fn read_text(heap: Global, text: &str) -> Result<TextTable, TextFault>
 {
     let mut reader = Reader {
         place: Place::States,
-        table: TextTable::new(heap),
+        head: Head {
+            states: 0,
+            range: 0,
+            root: 0,
+        },
+        numbered: NumberedRows::new(heap),
     };
     for (before, line) in text.lines().enumerate() {
         let words = Words::of(heap, line)?;
@@ -148,9 +153,14 @@ pub fn read_text(heap: Global, text: &str) -> Result<TextTable, TextFault>
             reader.read(&words, before + 1)?;
         }
     }
-    let Reader { place, table } = reader;
+    let Reader {
+        place,
+        head,
+        numbered,
+    } = reader;
+    let NumberedRows { rows, lines } = numbered;
     match place.missing() {
         Some(expected) => Err(TextFault::Line(line_count(text) + 1, expected)),
-        None => Ok(table),
+        None => Ok(TextTable { head, rows, lines }),
     }
 }

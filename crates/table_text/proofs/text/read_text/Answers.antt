@@ -13,8 +13,8 @@ loop-before-preserved c =
     let next : (c.in-Some.before ≡ come) × (come < length (lines c.args.text.now)) = line_comes c.args.text.now c.into_iter-before-iterator.result (search rules) (search rules) c.loop-before.yielded c.loop-before.before-iterator c.loop-before.yielded_by c.next.new.self (c.in-Some.before, c.in-Some.line) c.in-Some.ensures.steps in
     rw length-append
     (elim c.if-not-is_empty.branch [
-      | then-not-is_empty+in_ok-read w ↦ rw w.reader-is (rising_adds come (c.in-Some.before + 1) c.loop-before.reader.table.lines.items w.read.new.self.table.lines.items (omega (arith, next.0)) c.loop-before.invariant w.in_ok-read.ensures.lines)
-      | else-not-is_empty w ↦ rw w.reader-is (rising_wider come (come + 1) c.loop-before.reader.table.lines.items (omega arith) c.loop-before.invariant)
+      | then-not-is_empty+in_ok-read w ↦ rw w.reader-is (rising_adds come (c.in-Some.before + 1) c.loop-before.reader.numbered.lines.items w.read.new.self.numbered.lines.items (omega (arith, next.0)) c.loop-before.invariant w.in_ok-read.ensures.lines)
+      | else-not-is_empty w ↦ rw w.reader-is (rising_wider come (come + 1) c.loop-before.reader.numbered.lines.items (omega arith) c.loop-before.invariant)
     ])
 
 pub returns-in_err-read-clause-told : goal.returns-in_err-read-clause-told

@@ -4,4 +4,4 @@ use Rattle.table_text.specs.LineNumbers.{RisingLines}
 use Rattle.table_text.proofs.text.read_text.Given as goal
 
 abbrev pub invariant-loop-before : goal.invariant-loop-before
-invariant-loop-before l = RisingLines (length l.yielded) l.reader.table.lines.items
+invariant-loop-before l = RisingLines (length l.yielded) l.reader.numbered.lines.items
