@@ -24,10 +24,6 @@ pub record Spellable (row : Row) : Type 0 where
 abbrev pub ReadsValue : {A : Type 0} → ℕ → (ℕ → A) → List ℕ → Option A → Type 0
 ReadsValue bits value word r = (n : ℕ) → n < 2 ^ bits → word ≡ decimal n → r ≡ Some (value n)
 
--- the number itself, as at u8 and u32
-abbrev pub ReadsNumber : ℕ → List ℕ → Option ℕ → Type 0
-ReadsNumber bits word r = ReadsValue bits (λ n. n) word r
-
 -- a row is read from the words that spell it
 abbrev pub ReadsRow : List (List ℕ) → Result Row Expected → Type 0
 ReadsRow words r = (row : Row) → Spellable row → words ≡ row_words row → r ≡ Ok row

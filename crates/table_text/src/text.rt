@@ -2,33 +2,34 @@
 ghost use Rattle.std.specs.Prelude.{◌≡◌, ◌<◌, ◌++◌, ◌∷◌, [], IfErr, IfOk, OnErr, OnOk, length, vec_len};
 ghost use Rattle.std.specs.Str.Lines.{lines};
 ghost use Rattle.table_text.specs.LineNumbers.{AddsAtMost, RisingLines, Tells, TellsALine};
-ghost use Rattle.table_text.specs.Settings.{line_at, missing, next_head, next_place, told_row};
+ghost use Rattle.table_text.specs.Settings.{head_at, line_at, next_place, told_row};
 
 use crate::expected::{Expected, TextFault};
 use crate::line::Words;
 use std::alloc::{AllocError, Global};
 use table::row::{Head, Row};
 
-// How many of the three settings have been read. An enum, and neither types as states nor a closure
-// for each: one loop over the lines meets all four, and one contract says what a line says at each.
+// How much of the head has been read: the settings come one after another, and then rows. One
+// loop over the lines meets all four places, and one contract says what a line says at each, so this
+// is an enum, and neither a type for each place nor a closure.
 #[derive(Clone, Copy)]
 enum Place {
     States,
-    Range,
-    Root,
-    Rows,
+    Range { states: u32 },
+    Root { states: u32, range: u8 },
+    Rows(Head),
 }
 
 impl Place {
-    // The setting that is still to come first.
-    fn missing(self) -> Option<Expected>
-        ensures { result ≡ missing self }
+    // The head, once it is whole, or the setting that is still to come first.
+    fn head(self) -> Result<Head, Expected>
+        ensures { result ≡ head_at self }
     {
         match self {
-            Place::States => Some(Expected::States),
-            Place::Range => Some(Expected::Range),
-            Place::Root => Some(Expected::Root),
-            Place::Rows => None,
+            Place::States => Err(Expected::States),
+            Place::Range { .. } => Err(Expected::Range),
+            Place::Root { .. } => Err(Expected::Root),
+            Place::Rows(head) => Ok(head),
         }
     }
 }
@@ -78,7 +79,6 @@ impl NumberedRows {
 #[derive(Drop)]
 struct Reader {
     place: Place,
-    head: Head,
     numbered: NumberedRows,
 }
 
@@ -99,26 +99,29 @@ impl Reader {
 
     // A setting is kept, and a row is handed back.
     fn read_words(&mut self, words: &Words) -> Result<Option<Row>, Expected>
-        ensures value { result ≡ told_row (line_at self.old.place self.old.head words.now) }
-        ensures place { self.new.place ≡ next_place self.old.place (line_at self.old.place self.old.head words.now) }
-        ensures head { self.new.head ≡ next_head self.old.head (line_at self.old.place self.old.head words.now) }
+        ensures value { result ≡ told_row (line_at self.old.place words.now) }
+        ensures place { self.new.place ≡ next_place self.old.place (line_at self.old.place words.now) }
         ensures rows { self.new.numbered.rows ≡ self.old.numbered.rows }
         ensures lines { self.new.numbered.lines ≡ self.old.numbered.lines }
     {
         match self.place {
             Place::States => {
-                self.head.states = words.setting("states", Expected::States)?;
-                self.place = Place::Range;
+                let states = words.setting("states", Expected::States)?;
+                self.place = Place::Range { states };
             }
-            Place::Range => {
-                self.head.range = words.setting("range", Expected::Range)?;
-                self.place = Place::Root;
+            Place::Range { states } => {
+                let range = words.setting("range", Expected::Range)?;
+                self.place = Place::Root { states, range };
             }
-            Place::Root => {
-                self.head.root = words.setting("root", Expected::Root)?;
-                self.place = Place::Rows;
+            Place::Root { states, range } => {
+                let root = words.setting("root", Expected::Root)?;
+                self.place = Place::Rows(Head {
+                    states,
+                    range,
+                    root,
+                });
             }
-            Place::Rows => return Ok(Some(words.row()?)),
+            Place::Rows(_) => return Ok(Some(words.row()?)),
         }
         Ok(None)
     }
@@ -140,11 +143,6 @@ pub fn read_text(heap: Global, text: &str) -> Result<TextTable, TextFault>
 {
     let mut reader = Reader {
         place: Place::States,
-        head: Head {
-            states: 0,
-            range: 0,
-            root: 0,
-        },
         numbered: NumberedRows::new(heap),
     };
     for (before, line) in text.lines().enumerate() {
@@ -153,14 +151,10 @@ pub fn read_text(heap: Global, text: &str) -> Result<TextTable, TextFault>
             reader.read(&words, before + 1)?;
         }
     }
-    let Reader {
-        place,
-        head,
-        numbered,
-    } = reader;
+    let Reader { place, numbered } = reader;
     let NumberedRows { rows, lines } = numbered;
-    match place.missing() {
-        Some(expected) => Err(TextFault::Line(line_count(text) + 1, expected)),
-        None => Ok(TextTable { head, rows, lines }),
+    match place.head() {
+        Ok(head) => Ok(TextTable { head, rows, lines }),
+        Err(expected) => Err(TextFault::Line(line_count(text) + 1, expected)),
     }
 }

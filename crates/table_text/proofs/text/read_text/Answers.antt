@@ -24,7 +24,7 @@ returns-in_err-read-clause-told c =
     rw (passed.1, passed.2)
     (told_line (length (lines c.args.text.now)) (c.in-Some.before + 1) c.in_err-read.field-0.0 (omega arith) (omega (arith, come.0, come.1)) c.in_err-read.ensures.told)
 
-pub returns-in-None-missing-clause-rising : goal.returns-in-None-missing-clause-rising
-returns-in-None-missing-clause-rising c =
+pub returns-in-Ok-clause-rising : goal.returns-in-Ok-clause-rising
+returns-in-Ok-clause-rising c =
     let all = all_come c.args.text.now c.into_iter-before-iterator.result (search rules) (search rules) c.loop-before.yielded c.loop-before.before-iterator c.loop-before.yielded_by c.next.new.self c.in-None.ensures.steps in
     rw (← all) c.loop-before.invariant
