@@ -4,7 +4,8 @@ use std::{fmt, io};
 
 #[derive(Drop)]
 pub(crate) enum Failure {
-    // what the user is told
+    // what the user is told: a text of its own, since it names words of the command line and of
+    // files, which end before it does
     Told(String),
     Memory,
     Output(io::Error),

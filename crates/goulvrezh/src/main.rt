@@ -6,7 +6,7 @@ mod failure;
 mod report;
 
 use crate::failure::Failure;
-use crate::report::{MOST_STATES, Report};
+use crate::report::Report;
 use std::process::ExitCode;
 use std::{env, fs};
 
@@ -39,13 +39,13 @@ fn run(rt: &HostRuntime) -> Result<(), Failure> {
     let words: Vec<String> = env::args(rt)?.skip(1).collect(heap)?;
     let words: Vec<&str> = words.iter().map(|word| word.as_str()).collect(heap)?;
     match words.as_slice() {
-        [] => {
-            let name = example::NAME;
-            Report { rt, name }.survey_text(example::TEXT, MOST_STATES)
-        }
+        [] => Report::of(rt, example::NAME).survey_text(example::TEXT),
         ["help", ..] => Ok(rt.println(HELP)?),
-        ["survey", path] => survey_file(rt, path, MOST_STATES),
-        ["survey", path, word] => survey_file(rt, path, capacity(rt, word)?),
+        ["survey", path] => survey_file(Report::of(rt, path)),
+        ["survey", path, word] => survey_file(Report {
+            capacity: capacity(rt, word)?,
+            ..Report::of(rt, path)
+        }),
         ["survey", ..] => Err(Failure::Told(String::from_str(
             heap,
             "survey takes a FILE and, if wanted, a CAPACITY; see 'goulvrezh help'",
@@ -62,9 +62,10 @@ fn capacity(rt: &HostRuntime, word: &str) -> Result<usize, Failure> {
     })
 }
 
-fn survey_file(rt: &HostRuntime, path: &str, capacity: usize) -> Result<(), Failure> {
-    let text = fs::read_to_string(rt, path).try_map_err(|error| {
-        Ok(Failure::Told(format!(in rt.alloc(); "{path}: cannot be read: {error}")?))
+fn survey_file(report: Report) -> Result<(), Failure> {
+    let Report { rt, name, .. } = report;
+    let text = fs::read_to_string(rt, name).try_map_err(|error| {
+        Ok(Failure::Told(format!(in rt.alloc(); "{name}: cannot be read: {error}")?))
     })?;
-    Report { rt, name: path }.survey_text(text.as_str(), capacity)
+    report.survey_text(text.as_str())
 }

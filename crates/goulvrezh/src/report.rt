@@ -3,6 +3,7 @@ ghost use Rattle.std.specs.Prelude.{◌≡◌, vec_len};
 ghost use Rattle.table.specs.Steps.{Checked};
 
 use crate::failure::Failure;
+use explore::exploration::room_of;
 use explore::survey::survey;
 use source::label::{Label, value_count};
 use source::source::Source;
@@ -11,36 +12,44 @@ use table::fault::Fault;
 use table::table::Table;
 use table_text::text::{TextTable, read_text};
 
-// The most states that a survey lists.
-pub(crate) const MOST_STATES: usize = 65535;
-
-// A report on what goes by a name, to wherever the program prints.
+// A report on what goes by a name, to wherever the program prints: of no more states than the
+// capacity.
 #[derive(Clone, Copy)]
 pub(crate) struct Report<'a> {
     pub(crate) rt: &'a HostRuntime,
     pub(crate) name: &'a str,
+    pub(crate) capacity: usize,
 }
 
 impl<'a> Report<'a> {
+    // With no capacity named there is room for the most that is ever listed.
+    pub(crate) fn of(rt: &'a HostRuntime, name: &'a str) -> Report<'a> {
+        Report {
+            rt,
+            name,
+            capacity: usize::MAX,
+        }
+    }
+
     // Surveys the table that a text spells.
-    pub(crate) fn survey_text(self, text: &str, capacity: usize) -> Result<(), Failure> {
-        let Report { rt, name } = self;
+    pub(crate) fn survey_text(self, text: &str) -> Result<(), Failure> {
+        let Report { rt, name, .. } = self;
         let table = read_text(rt.alloc(), text).try_map_err(|fault| {
             Ok(Failure::Told(format!(in rt.alloc(); "{name}: {fault}")?))
         })?;
-        self.survey_table(&table, capacity)
+        self.survey_table(&table)
     }
 
-    fn survey_table(self, text: &TextTable, capacity: usize) -> Result<(), Failure>
+    fn survey_table(self, text: &TextTable) -> Result<(), Failure>
         requires { vec_len text.now.lines ≡ vec_len text.now.rows }
     {
-        let Report { rt, name } = self;
+        let Report { rt, name, .. } = self;
         let rows = text.rows.as_slice();
         if let Err(fault) = check(text.head, rows) {
             return self.refused(text, fault);
         }
         println!(rt; "source {name}")?;
-        self.survey_source(&Table::new(text.head, rows), capacity)
+        self.survey_source(&Table::new(text.head, rows))
     }
 
     // What is said of a table that breaks a rule. The check tells a row that there is, so it has a line.
@@ -48,7 +57,7 @@ impl<'a> Report<'a> {
         requires each { vec_len text.now.lines ≡ vec_len text.now.rows }
         requires checked { Checked text.now.head text.now.rows.items (Err fault) }
     {
-        let Report { rt, name } = self;
+        let Report { rt, name, .. } = self;
         let heap = rt.alloc();
         let number = fault.number();
         match fault {
@@ -67,8 +76,8 @@ impl<'a> Report<'a> {
     }
 
     // The four numbers of a source, then the states that it reaches with their steps.
-    fn survey_source<S: Source>(self, source: &S, capacity: usize) -> Result<(), Failure> {
-        let Report { rt, name } = self;
+    fn survey_source<S: Source>(self, source: &S) -> Result<(), Failure> {
+        let Report { rt, name, .. } = self;
         let heap = rt.alloc();
         let extent = source.extent();
         let range = source.range();
@@ -78,7 +87,7 @@ impl<'a> Report<'a> {
         println!(rt; "range {range}")?;
         println!(rt; "root {root}")?;
         println!(rt; "width {width}")?;
-        let room = capacity.min(MOST_STATES).min(extent as usize);
+        let room = room_of(self.capacity).min(extent as usize);
         let mut states = vec![in heap; 0u32; room]?;
         match survey(source, states.as_mut_slice()) {
             Ok(count) => {

@@ -2,29 +2,31 @@
 use crate::rows::{head, receive, send, silent};
 use std::array;
 use table::check::check as check_table;
-use table::row::{Head, Row};
-
-// The row that is told, or none where the table is accepted.
-fn told(head: Head, rows: &[Row]) -> Option<usize> {
-    check_table(head, rows).err().map(|fault| fault.row())
-}
+use table::fault::Fault;
+use table::row::Row;
 
 #[test]
 fn heads_at_their_bounds(rt: HostRuntime) {
-    assert_eq!(rt; told(head(1, 1, 0), &[]), None);
-    assert_eq!(rt; told(head(65536, 32, 65535), &[]), None);
-    assert_eq!(rt; told(head(0, 1, 0), &[]), Some(0));
-    assert_eq!(rt; told(head(65537, 1, 0), &[]), Some(0));
-    assert_eq!(rt; told(head(1, 0, 0), &[]), Some(0));
-    assert_eq!(rt; told(head(1, 33, 0), &[]), Some(0));
-    assert_eq!(rt; told(head(1, 1, 1), &[]), Some(0));
-    assert_eq!(rt; told(head(4294967295, 255, 4294967295), &[]), Some(0));
+    assert_eq!(rt; check_table(head(1, 1, 0), &[]), Ok(()));
+    assert_eq!(rt; check_table(head(65536, 32, 65535), &[]), Ok(()));
+    assert_eq!(rt; check_table(head(0, 1, 0), &[]), Err(Fault::Head));
+    assert_eq!(rt; check_table(head(65537, 1, 0), &[]), Err(Fault::Head));
+    assert_eq!(rt; check_table(head(1, 0, 0), &[]), Err(Fault::Head));
+    assert_eq!(rt; check_table(head(1, 33, 0), &[]), Err(Fault::Head));
+    assert_eq!(rt; check_table(head(1, 1, 1), &[]), Err(Fault::Head));
+    assert_eq!(rt;
+        check_table(head(4294967295, 255, 4294967295), &[]),
+        Err(Fault::Head)
+    );
 }
 
 // A bad head is told before any row.
 #[test]
 fn head_before_rows(rt: HostRuntime) {
-    assert_eq!(rt; told(head(0, 1, 0), &[silent(9, 9)]), Some(0));
+    assert_eq!(rt;
+        check_table(head(0, 1, 0), &[silent(9, 9)]),
+        Err(Fault::Head)
+    );
 }
 
 // Each row that breaks a rule by itself, at the first place, in the middle and at the last.
@@ -58,30 +60,42 @@ fn bad_rows_are_told_at_their_place(rt: HostRuntime) {
         receive(0, 0, 2, 0),
     ];
     for row in bad {
-        assert_eq!(rt; told(h, &[row, silent(2, 0)]), Some(1));
-        assert_eq!(rt; told(h, &[silent(0, 0), row, silent(2, 0)]), Some(2));
-        assert_eq!(rt; told(h, &[silent(0, 0), silent(0, 0), row]), Some(3));
+        assert_eq!(rt; check_table(h, &[row, silent(2, 0)]), Err(Fault::Row(1)));
+        assert_eq!(rt;
+            check_table(h, &[silent(0, 0), row, silent(2, 0)]),
+            Err(Fault::Row(2))
+        );
+        assert_eq!(rt;
+            check_table(h, &[silent(0, 0), silent(0, 0), row]),
+            Err(Fault::Row(3))
+        );
     }
 }
 
 #[test]
 fn from_never_falls(rt: HostRuntime) {
     let h = head(3, 2, 0);
-    assert_eq!(rt; told(h, &[silent(0, 0), silent(0, 1), silent(2, 2)]), None);
     assert_eq!(rt;
-        told(h, &[silent(1, 0), silent(0, 1), silent(2, 2)]),
-        Some(2)
+        check_table(h, &[silent(0, 0), silent(0, 1), silent(2, 2)]),
+        Ok(())
     );
     assert_eq!(rt;
-        told(h, &[silent(0, 0), silent(2, 1), silent(1, 2)]),
-        Some(3)
+        check_table(h, &[silent(1, 0), silent(0, 1), silent(2, 2)]),
+        Err(Fault::Row(2))
+    );
+    assert_eq!(rt;
+        check_table(h, &[silent(0, 0), silent(2, 1), silent(1, 2)]),
+        Err(Fault::Row(3))
     );
 }
 
 #[test]
 fn receives_take_a_row_for_each_value(rt: HostRuntime) {
     let h = head(3, 2, 0);
-    assert_eq!(rt; told(h, &[receive(0, 5, 0, 1), receive(0, 5, 1, 2)]), None);
+    assert_eq!(rt;
+        check_table(h, &[receive(0, 5, 0, 1), receive(0, 5, 1, 2)]),
+        Ok(())
+    );
     // a second receive on the same channel
     let twice = [
         receive(0, 5, 0, 1),
@@ -89,13 +103,19 @@ fn receives_take_a_row_for_each_value(rt: HostRuntime) {
         receive(0, 5, 0, 0),
         receive(0, 5, 1, 0),
     ];
-    assert_eq!(rt; told(h, &twice), None);
+    assert_eq!(rt; check_table(h, &twice), Ok(()));
     // cut short at the end: the last row is told
-    assert_eq!(rt; told(h, &[receive(0, 5, 0, 1)]), Some(1));
-    assert_eq!(rt; told(h, &[silent(0, 1), receive(0, 5, 0, 1)]), Some(2));
+    assert_eq!(rt; check_table(h, &[receive(0, 5, 0, 1)]), Err(Fault::Row(1)));
+    assert_eq!(rt;
+        check_table(h, &[silent(0, 1), receive(0, 5, 0, 1)]),
+        Err(Fault::Row(2))
+    );
     // interrupted: the row that interrupts is told
     let begun = receive(0, 5, 0, 1);
-    assert_eq!(rt; told(h, &[begun, silent(1, 1), silent(2, 1)]), Some(2));
+    assert_eq!(rt;
+        check_table(h, &[begun, silent(1, 1), silent(2, 1)]),
+        Err(Fault::Row(2))
+    );
     let interrupting = [
         silent(0, 1),
         receive(0, 6, 1, 1),
@@ -105,7 +125,7 @@ fn receives_take_a_row_for_each_value(rt: HostRuntime) {
         receive(0, 5, 1, 3),
     ];
     for row in interrupting {
-        assert_eq!(rt; told(h, &[begun, row]), Some(2));
+        assert_eq!(rt; check_table(h, &[begun, row]), Err(Fault::Row(2)));
     }
 }
 
@@ -125,25 +145,28 @@ fn one_wide_receive() -> [Row; 33] {
 fn smallest_and_largest_range(rt: HostRuntime) {
     let one = head(2, 1, 0);
     assert_eq!(rt;
-        told(
+        check_table(
             one,
             &[receive(0, 63, 0, 1), receive(0, 63, 0, 1), silent(1, 0)],
         ),
-        None
+        Ok(())
     );
-    assert_eq!(rt; told(one, &[receive(0, 63, 1, 1)]), Some(1));
-    assert_eq!(rt; told(one, &[send(0, 63, 1, 1)]), Some(1));
+    assert_eq!(rt;
+        check_table(one, &[receive(0, 63, 1, 1)]),
+        Err(Fault::Row(1))
+    );
+    assert_eq!(rt; check_table(one, &[send(0, 63, 1, 1)]), Err(Fault::Row(1)));
     let wide = head(2, 32, 0);
     let mut rows = one_wide_receive();
-    assert_eq!(rt; told(wide, &rows), None);
-    assert_eq!(rt; told(wide, &rows[0..32]), None);
-    assert_eq!(rt; told(wide, &rows[0..31]), Some(31));
-    assert_eq!(rt; told(wide, &rows[0..1]), Some(1));
+    assert_eq!(rt; check_table(wide, &rows), Ok(()));
+    assert_eq!(rt; check_table(wide, &rows[0..32]), Ok(()));
+    assert_eq!(rt; check_table(wide, &rows[0..31]), Err(Fault::Row(31)));
+    assert_eq!(rt; check_table(wide, &rows[0..1]), Err(Fault::Row(1)));
     rows[31] = receive(0, 63, 30, 1);
-    assert_eq!(rt; told(wide, &rows), Some(32));
+    assert_eq!(rt; check_table(wide, &rows), Err(Fault::Row(32)));
     rows[31] = receive(0, 63, 31, 1);
     rows[32] = send(1, 63, 32, 0);
-    assert_eq!(rt; told(wide, &rows), Some(33));
+    assert_eq!(rt; check_table(wide, &rows), Err(Fault::Row(33)));
 }
 
 // 64 steps of a state are accepted; the first row of the 65th is told.
@@ -152,11 +175,11 @@ fn at_most_64_steps(rt: HostRuntime) {
     let h = head(2, 2, 0);
     let mut rows = [silent(0, 1); 66];
     rows[65] = silent(1, 1);
-    assert_eq!(rt; told(h, &rows[0..64]), None);
-    assert_eq!(rt; told(h, &rows[0..65]), Some(65));
-    assert_eq!(rt; told(h, &rows), Some(65));
+    assert_eq!(rt; check_table(h, &rows[0..64]), Ok(()));
+    assert_eq!(rt; check_table(h, &rows[0..65]), Err(Fault::Row(65)));
+    assert_eq!(rt; check_table(h, &rows), Err(Fault::Row(65)));
     rows[64] = silent(1, 1);
-    assert_eq!(rt; told(h, &rows), None);
+    assert_eq!(rt; check_table(h, &rows), Ok(()));
 }
 
 // 65 receives of one state.
@@ -169,21 +192,26 @@ fn many_receives() -> [Row; 130] {
 fn at_most_64_receives(rt: HostRuntime) {
     let h = head(2, 2, 0);
     let rows = many_receives();
-    assert_eq!(rt; told(h, &rows[0..128]), None);
-    assert_eq!(rt; told(h, &rows[0..127]), Some(127));
-    assert_eq!(rt; told(h, &rows[0..129]), Some(129));
+    assert_eq!(rt; check_table(h, &rows[0..128]), Ok(()));
+    assert_eq!(rt; check_table(h, &rows[0..127]), Err(Fault::Row(127)));
+    assert_eq!(rt; check_table(h, &rows[0..129]), Err(Fault::Row(129)));
     // the first row of the 65th step
-    assert_eq!(rt; told(h, &rows), Some(129));
+    assert_eq!(rt; check_table(h, &rows), Err(Fault::Row(129)));
+}
+
+// The numbers by which a fault goes: the refusal's, and that of the row that is told.
+fn numbers(fault: Fault) -> (u8, usize) {
+    (fault.number(), fault.row())
 }
 
 #[test]
 fn a_table_is_refused_by_number_9(rt: HostRuntime) {
     assert_eq!(rt;
-        check_table(head(0, 1, 0), &[]).map_err(|fault| fault.number()),
-        Err(9)
+        check_table(head(0, 1, 0), &[]).map_err(numbers),
+        Err((9, 0))
     );
     assert_eq!(rt;
-        check_table(head(1, 1, 0), &[silent(1, 0)]).map_err(|fault| fault.number()),
-        Err(9)
+        check_table(head(1, 1, 0), &[silent(1, 0)]).map_err(numbers),
+        Err((9, 1))
     );
 }

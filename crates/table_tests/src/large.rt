@@ -1,6 +1,7 @@
 // Tables of the largest number of states.
 use crate::rows::{head, send, silent};
-use crate::surveys::reached;
+use explore::refusal::Refusal;
+use explore::survey::survey;
 use source::source::Source;
 use std::alloc::{AllocError, Global};
 use std::test::Fail;
@@ -51,7 +52,10 @@ fn no_more_than_the_most(rt: HostRuntime) -> Result<(), Fail> {
     let rows = chain(rt.alloc())?;
     let table = Table::new(head(65536, 1, 0), rows.as_slice());
     let mut list = vec![in rt.alloc(); 7u32; 65537]?;
-    assert_eq!(rt; reached(&table, list.as_mut_slice()), Err(14));
+    assert_eq!(rt;
+        survey(&table, list.as_mut_slice()),
+        Err(Refusal::ShortOfRows)
+    );
     assert!(rt; list.len() == 65537);
     assert_eq!(rt; list[65534], 65534);
     assert_eq!(rt; list[65535], 7);
@@ -65,7 +69,7 @@ fn exactly_the_most(rt: HostRuntime) -> Result<(), Fail> {
     let rows = chain(rt.alloc())?;
     let table = Table::new(head(65536, 1, 1), rows.as_slice());
     let mut list = vec![in rt.alloc(); 7u32; 65536]?;
-    assert_eq!(rt; reached(&table, list.as_mut_slice()), Ok(65535));
+    assert_eq!(rt; survey(&table, list.as_mut_slice()), Ok(65535));
     assert!(rt; list.len() == 65536);
     assert_eq!(rt; list[65534], 65535);
     assert_eq!(rt; list[65535], 7);

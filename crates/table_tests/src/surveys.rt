@@ -1,7 +1,7 @@
 // Surveys: the order, and the list's length around what is reached.
 use crate::rows::{head, receive, send, silent};
+use explore::refusal::Refusal;
 use explore::survey::survey;
-use source::source::Source;
 use source::still::Still;
 use table::row::Row;
 use table::table::Table;
@@ -18,16 +18,11 @@ fn rows() -> [Row; 6] {
     ]
 }
 
-// How many states are reached, or the number of the refusal.
-pub(crate) fn reached<S: Source>(source: &S, list: &mut [u32]) -> Result<usize, u8> {
-    survey(source, list).map_err(|refusal| refusal.number())
-}
-
 // What a survey of the five states answers that is lent a list of N, and the list afterwards.
-fn surveyed<const N: usize>() -> (Result<usize, u8>, [u32; N]) {
+fn surveyed<const N: usize>() -> (Result<usize, Refusal>, [u32; N]) {
     let rows = rows();
     let mut list = [99u32; N];
-    let answer = reached(&Table::new(head(5, 2, 2), &rows), &mut list);
+    let answer = survey(&Table::new(head(5, 2, 2), &rows), &mut list);
     (answer, list)
 }
 
@@ -55,20 +50,20 @@ fn one_more_than_enough(rt: HostRuntime) {
 #[test]
 fn one_too_short(rt: HostRuntime) {
     let (answer, list) = surveyed();
-    assert_eq!(rt; answer, Err(14));
+    assert_eq!(rt; answer, Err(Refusal::ShortOfRows));
     assert_eq!(rt; list, [2, 4, 1]);
 }
 
 #[test]
 fn no_room_at_all(rt: HostRuntime) {
     let (answer, _) = surveyed::<0>();
-    assert_eq!(rt; answer, Err(14));
-    assert_eq!(rt; reached(&Still::new(3), &mut []), Err(14));
+    assert_eq!(rt; answer.map_err(|refusal| refusal.number()), Err(14));
+    assert_eq!(rt; survey(&Still::new(3), &mut []), Err(Refusal::ShortOfRows));
 }
 
 #[test]
 fn still_reaches_its_root(rt: HostRuntime) {
     let mut list = [99u32; 2];
-    assert_eq!(rt; reached(&Still::new(32), &mut list), Ok(1));
+    assert_eq!(rt; survey(&Still::new(32), &mut list), Ok(1));
     assert_eq!(rt; list, [0, 99]);
 }
