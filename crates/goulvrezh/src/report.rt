@@ -52,7 +52,8 @@ impl<'a> Report<'a> {
         self.survey_source(&Table::new(text.head, rows))
     }
 
-    // What is said of a table that breaks a rule. The check tells a row that there is, so it has a line.
+    // What is said of a table that breaks a rule. The check tells a row that there is, so it has a
+    // line. No `Display` of the fault: of a row it depends on the rows whether it is the last.
     fn refused(self, text: &TextTable, fault: Fault) -> Result<(), Failure>
         requires each { vec_len text.now.lines ≡ vec_len text.now.rows }
         requires checked { Checked text.now.head text.now.rows.items (Err fault) }
@@ -95,17 +96,50 @@ impl<'a> Report<'a> {
                 let unreached = (extent as usize).saturating_sub(count);
                 println!(rt; "unreached {unreached}")?;
                 states.truncate(count);
-                print_states(rt, source, states.as_slice())
+                self.print_states(source, states.as_slice())
             }
             Err(refusal) => {
                 println!(rt; "reached more than {room}")?;
-                print_states(rt, source, states.as_slice())?;
+                self.print_states(source, states.as_slice())?;
                 let number = refusal.number();
                 Err(Failure::Told(format!(in heap;
                     "{name}: refused {number}: more states are reached than there is room for, which is {room}"
                 )?))
             }
         }
+    }
+
+    fn print_states<S: Source>(self, source: &S, states: &[u32]) -> Result<(), Failure> {
+        let rt = self.rt;
+        for state in states {
+            let degree = source.degree(*state);
+            println!(rt; "state {state} steps {degree}")?;
+            for step in 0..degree {
+                self.print_step(source, *state, step)?;
+            }
+        }
+        Ok(())
+    }
+
+    // One line: the label, and where the step leads at each of its values.
+    fn print_step<S: Source>(self, source: &S, state: u32, step: u32) -> Result<(), Failure> {
+        let rt = self.rt;
+        let label = source.label(state, step);
+        print!(rt; "step {step} {label}")?;
+        match label {
+            Label::Receive { .. } => {
+                for value in 0..value_count(source.range(), label) {
+                    let to = source.landing(state, step, value);
+                    print!(rt; ", value {value} to state {to}")?;
+                }
+            }
+            _ => {
+                let to = source.landing(state, step, 0);
+                print!(rt; " to state {to}")?;
+            }
+        }
+        println!(rt; "")?;
+        Ok(())
     }
 }
 
@@ -116,40 +150,4 @@ fn wrong_row(last: bool) -> &'static str {
     } else {
         "this row can't follow those before it"
     }
-}
-
-fn print_states<S: Source>(rt: &HostRuntime, source: &S, states: &[u32]) -> Result<(), Failure> {
-    for state in states {
-        let degree = source.degree(*state);
-        println!(rt; "state {state} steps {degree}")?;
-        for step in 0..degree {
-            print_step(rt, source, *state, step)?;
-        }
-    }
-    Ok(())
-}
-
-// One line: the label, and where the step leads at each of its values.
-fn print_step<S: Source>(
-    rt: &HostRuntime,
-    source: &S,
-    state: u32,
-    step: u32,
-) -> Result<(), Failure> {
-    let label = source.label(state, step);
-    print!(rt; "step {step} {label}")?;
-    match label {
-        Label::Receive { .. } => {
-            for value in 0..value_count(source.range(), label) {
-                let to = source.landing(state, step, value);
-                print!(rt; ", value {value} to state {to}")?;
-            }
-        }
-        _ => {
-            let to = source.landing(state, step, 0);
-            print!(rt; " to state {to}")?;
-        }
-    }
-    println!(rt; "")?;
-    Ok(())
 }

@@ -26,7 +26,8 @@ impl fmt::Display for Label {
     }
 }
 
-// Whether two labels are equal.
+// Whether two labels are equal. By the project's rule that is a function of its own beside `==`: it
+// has a definition, of which promises speak.
 pub fn same_label(a: Label, b: Label) -> bool
     ensures value { result ≡ same_label a b }
     ensures same { result ≡ true → a ≡ b }

@@ -1,6 +1,7 @@
 -- Rows that spell steps, as a table: it shows just these steps, and it is lawful.
-use Rattle.std.proofs.Common.{◌≡◌, ℕ, ◌+◌, ◌<◌, ◌≤◌, false, cond, eqb, ltb, List, [], ◌∷◌, length, get_or, Some, Option, sym, refl, ap, ◌∙◌, subst, inl, inr, arith}
+use Rattle.std.proofs.Common.{◌≡◌, ℕ, ◌+◌, ◌<◌, ◌≤◌, false, cond, eqb, ltb, List, [], ◌∷◌, length, get_or, Some, sym, refl, ap, ◌∙◌, subst, inl, inr, arith}
 use Rattle.std.proofs.lemmas.Bool.{cases_lt, cond-true, cond-false, lt-ltb, le-ltb, cond_both}
+use Rattle.std.proofs.lemmas.Option.{same_Some}
 use Rattle.choose.proofs.Laws.{chosen_passes, count_above}
 use Rattle.source.specs.Labels.{Fits, is_receive}
 use Rattle.source.specs.Meaning.{Lawful}
@@ -148,7 +149,4 @@ landing_within h rows steps known s k i v found inside =
     let here : Stands rows s k step = subst (λ r. Stands r s k step) (sym known.spelt) (stands h steps known.head_fits fit s k less) in
     let far : cond (eqb (get_or rows here.row no_row).kind 2) v 0 ≡ cond (is_receive step.label) v 0 = ap (λ b. cond b v 0) (stands_receive h rows s k step some fits here) in
     let within : here.row + cond (eqb (get_or rows here.row no_row).kind 2) v 0 < length rows = omega (arith, landing_there h rows s k step some fits here v inside, here.within) in
-    subst (λ n. n + cond (eqb (get_or rows n no_row).kind 2) v 0 < length rows) (some_inj here.row i (sym here.found ∙ found)) within
-  where
-    some_inj : (m n : ℕ) → ◌≡◌ {A = Option ℕ} (Some m) (Some n) → m ≡ n
-    some_inj m n e = cc
+    subst (λ n. n + cond (eqb (get_or rows n no_row).kind 2) v 0 < length rows) (same_Some here.row i (sym here.found ∙ found)) within

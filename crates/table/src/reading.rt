@@ -51,7 +51,7 @@ impl Receiving {
     }
 }
 
-// How far a table has been read. The head is no part of that, and stays a parameter.
+// How far a table has been read. The head stays a parameter: in here, each reading would repeat it.
 #[derive(Clone, Copy)]
 struct Reading {
     // the state whose steps are being read, and how many of them have begun

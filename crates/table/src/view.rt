@@ -3,6 +3,7 @@ ghost use Rattle.std.specs.Prelude.{◌≡◌, ◌≤◌, List};
 ghost use Rattle.source.specs.Meaning.{still, Lawful};
 ghost use Rattle.table.specs.Parts.{Part};
 ghost use Rattle.table.specs.Steps.{Step, Spells, WellFormed};
+ghost use Rattle.table.specs.Tables.{meaning_of};
 ghost use Rattle.table.specs.Views.{table_meaning, largest, degree_of, step_row, Shows};
 
 use crate::check::measure;
@@ -16,9 +17,9 @@ use source::source::Source;
 impl<'a> Table<'a> {
     // The table that these rows are; where the check refuses them, the still source of range 1.
     pub fn new(head: Head, rows: &'a [Row]) -> Table<'a>
-        ensures accepted { WellFormed head rows.now → table_meaning result.head result.rows.now ≡ table_meaning head rows.now }
-        ensures refused { (WellFormed head rows.now → ⊥) → table_meaning result.head result.rows.now ≡ still 1 }
-        ensures shows { (steps : List Step) → Spells head rows.now steps → Shows head steps (table_meaning result.head result.rows.now) }
+        ensures accepted { WellFormed head rows.now → meaning_of result ≡ table_meaning head rows.now }
+        ensures refused { (WellFormed head rows.now → ⊥) → meaning_of result ≡ still 1 }
+        ensures shows { (steps : List Step) → Spells head rows.now steps → Shows head steps (meaning_of result) }
     {
         match measure(head, rows) {
             Ok(width) => Table::accepted(head, rows, width),
@@ -30,14 +31,14 @@ impl<'a> Table<'a> {
     fn accepted(head: Head, rows: &'a [Row], width: u32) -> Table<'a>
         requires formed { WellFormed head rows.now }
         requires widest { width ≡ largest (degree_of rows.now) head.states }
-        ensures { table_meaning result.head result.rows.now ≡ table_meaning head rows.now }
+        ensures { meaning_of result ≡ table_meaning head rows.now }
     {
         Table { head, rows, width }
     }
 
     // The still source of range 1: one state, and none of the rows.
     fn refused(rows: &'a [Row]) -> Table<'a>
-        ensures { table_meaning result.head result.rows.now ≡ still 1 }
+        ensures { meaning_of result ≡ still 1 }
     {
         Table {
             head: Head {
@@ -53,7 +54,7 @@ impl<'a> Table<'a> {
     // The range, of a table that keeps the laws of a source.
     fn lawful_range(&self) -> u8
         ensures value { result ≡ self.now.head.range }
-        ensures lawful { Lawful (table_meaning self.now.head self.now.rows.now) }
+        ensures lawful { Lawful (meaning_of self.now) }
     {
         self.head.range
     }
@@ -72,7 +73,8 @@ impl<'a> Table<'a> {
         }
     }
 
-    // How many steps leave a state.
+    // How many steps leave a state. Rows are counted by number, as they are chosen below: one definition
+    // and its laws serve both.
     fn step_count(&self, state: u32) -> usize
         ensures value { result ≡ degree_of self.now.rows.now state }
         ensures few { result ≤ 64 }
@@ -92,7 +94,7 @@ impl<'a> Table<'a> {
 }
 
 impl<'a> Source for Table<'a> {
-    ghost meaning = { λ t. table_meaning t.head t.rows.now };
+    ghost meaning = { meaning_of };
 
     fn extent(&self) -> u32 {
         self.head.states
