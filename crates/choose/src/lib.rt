@@ -35,8 +35,8 @@ pub fn first_passing<P: Fn(&usize) -> bool>(test: P, bound: usize) -> Option<usi
 }
 
 // Where the numbers below `bound` begin to pass, found by halving: for a test that, once it
-// passes, stays passing. The library halves only what lies in memory (`partition_point`), and no range
-// of numbers, so this is a loop.
+// passes, stays passing. It stays a loop, as it is promised for numbers that no list holds, and the
+// library halves only what lies in memory (`partition_point`).
 pub fn split_passing<P: Fn(&usize) -> bool>(test: P, bound: usize) -> usize
     requires { Callable P.Fn test bound }
     ensures within { result ≤ bound }

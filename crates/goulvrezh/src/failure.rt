@@ -4,8 +4,8 @@ use std::{fmt, io};
 
 #[derive(Drop)]
 pub(crate) enum Failure {
-    // what the user is told: a text of its own, since it names words of the command line and of
-    // files, which end before it does
+    // what the user is told: a text, since each is made in one place and only printed, and a case for
+    // each would be taken apart only to print it; owned, since the command line's words end before it
     Told(String),
     Memory,
     Output(io::Error),

@@ -40,8 +40,8 @@ impl Row {
         !self.is_receive() || self.value == 0
     }
 
-    // The label that the row tells. It is no `From`: a kind that is none has no label, and here the
-    // check has ruled that out.
+    // The label that the row tells. It is no `From`, since a kind that is none has no label, and no
+    // `TryFrom`, since here the check has ruled that out and no caller could use the error.
     pub(crate) fn label(self) -> Label
         ensures { result ≡ label_of self }
     {

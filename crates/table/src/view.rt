@@ -15,7 +15,8 @@ use source::label::Label;
 use source::source::Source;
 
 impl<'a> Table<'a> {
-    // The table that these rows are; where the check refuses them, the still source of range 1.
+    // The table that these rows are; where the check refuses them, the still source of range 1. Head
+    // and rows are two parameters here too: a struct of both would be taken apart at once.
     pub fn new(head: Head, rows: &'a [Row]) -> Table<'a>
         ensures accepted { WellFormed head rows.now → meaning_of result ≡ table_meaning head rows.now }
         ensures refused { (WellFormed head rows.now → ⊥) → meaning_of result ≡ still 1 }
