@@ -194,3 +194,10 @@ chosen_front p m n k l =
     let some = chosen_some p m k l in
     let c = chosen_passes p m k some.0 some.1 in
     chosen_at p (m + n) k some.0 (record { below = omega (arith, c.below); passes = c.passes; after = c.after }) ∙ sym some.1
+
+-- the same of an answer that is known to be the choice
+pub undoes_chosen : (p : ℕ → Bool) (n k : ℕ) (r : Option ℕ) → r ≡ chosen p n k → Undoes p n k r
+undoes_chosen p n k r e = subst (Undoes p n k) (sym e) (chosen_undoes p n k)
+
+pub first_chosen : (p : ℕ → Bool) (n : ℕ) (r : Option ℕ) → r ≡ chosen p n 0 → First p n r
+first_chosen p n r e = subst (First p n) (sym e) (chosen_first p n)

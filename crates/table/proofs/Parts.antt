@@ -7,7 +7,7 @@ use Rattle.choose.specs.Choice.{count, chosen}
 use Rattle.choose.proofs.Laws.{from_on, count_same, chosen_same}
 use Rattle.table.specs.declared.row.Row.{Row}
 use Rattle.std.specs.List.Sorted.{IsPartitionedBy, IsPartitionPoint}
-use Rattle.table.specs.Parts.{Sorted, Splits, Part}
+use Rattle.table.specs.Parts.{begins_in, Sorted, Splits, Part}
 use Rattle.table.specs.Views.{no_row, begins, step_row, degree_of}
 use Rattle.choose.proofs.Elements.{test_at, counted, counted_part, picked_part}
 use Rattle.table.proofs.StepRows.{begins_of, none_begun}
@@ -80,25 +80,25 @@ module _ (rows : List Row) (s before : ℕ) (part : List Row) (here : Part rows 
   none_behind : counted (begins_of s) no_row here.behind ≡ 0
   none_behind = none_begun s here.behind (λ i l e. omega (arith, here.none_behind i l))
 
-  tests_agree : (i : ℕ) → i < length part → test_at begins no_row part i ≡ begins_of s (get_or part i no_row)
+  tests_agree : (i : ℕ) → i < length part → begins_in part i ≡ begins_of s (get_or part i no_row)
   tests_agree i l =
       let row = get_or part i no_row in
-      sym (and-true (begins row)) ∙ ap (λ b. begins row && b) (sym (eq-eqb row.from s (here.all_here i l)))
+      ap (λ b. b && begins row) (lt-ltb i (length part) l) ∙ sym (and-true (begins row)) ∙ ap (λ b. begins row && b) (sym (eq-eqb row.from s (here.all_here i l)))
 
-  pub part_degree : count (test_at begins no_row part) (length part) ≡ degree_of rows s
+  pub part_degree : count (begins_in part) (length part) ≡ degree_of rows s
   part_degree =
-      count_same (test_at begins no_row part) (test_at (begins_of s) no_row part) (length part) tests_agree
+      count_same (begins_in part) (test_at (begins_of s) no_row part) (length part) tests_agree
       ∙ sym (counted_part (begins_of s) no_row here.front part here.behind none_in_front none_behind)
       ∙ ap (λ r. degree_of r s) (sym here.whole)
 
-  part_row : (k : ℕ) → step_row rows s k ≡ from_on before (chosen (test_at begins no_row part) (length part) k)
+  part_row : (k : ℕ) → step_row rows s k ≡ from_on before (chosen (begins_in part) (length part) k)
   part_row k =
       ap (λ r. step_row r s k) here.whole
       ∙ picked_part (begins_of s) no_row here.front part here.behind k none_in_front none_behind
-      ∙ ap (λ o. from_on (length here.front) o) (sym (chosen_same (test_at begins no_row part) (test_at (begins_of s) no_row part) (length part) k tests_agree))
-      ∙ ap (λ n. from_on n (chosen (test_at begins no_row part) (length part) k)) here.in_front
+      ∙ ap (λ o. from_on (length here.front) o) (sym (chosen_same (begins_in part) (test_at (begins_of s) no_row part) (length part) k tests_agree))
+      ∙ ap (λ n. from_on n (chosen (begins_in part) (length part) k)) here.in_front
 
-  pub part_chosen : (k : ℕ) (r : Option ℕ) → r ≡ chosen (test_at begins no_row part) (length part) k → from_on before r ≡ step_row rows s k
+  pub part_chosen : (k : ℕ) (r : Option ℕ) → r ≡ chosen (begins_in part) (length part) k → from_on before r ≡ step_row rows s k
   part_chosen k r e = ap (from_on before) e ∙ sym (part_row k)
 
   pub part_within : before + length part ≤ length rows

@@ -1,7 +1,11 @@
 -- The rows of one state: a part of the table, since rows are sorted by the state that they leave.
-use Rattle.std.specs.Prelude.{◌≡◌, ℕ, ◌<◌, ◌≤◌, List, ◌++◌, length, slice_index_or}
+use Rattle.std.specs.Prelude.{◌≡◌, ℕ, ◌<◌, ◌≤◌, Bool, ◌&&◌, List, ◌++◌, length, slice_index_or, nat_lt}
 use Rattle.table.specs.declared.row.Row.{Row}
-use Rattle.table.specs.Views.{no_row}
+use Rattle.table.specs.Views.{begins, no_row}
+
+-- whether row i begins a step
+abbrev pub begins_in : List Row → ℕ → Bool
+begins_in rows i = nat_lt i (length rows) && begins (slice_index_or rows i no_row)
 
 -- no row leaves a smaller state than one before it
 abbrev pub Sorted : List Row → Type 0

@@ -7,5 +7,6 @@ pub mod kind;
 mod part;
 mod reading;
 pub mod row;
+mod row_tests;
 pub mod table;
 pub mod view;

@@ -9,6 +9,7 @@ ghost use Rattle.table.specs.Views.{table_meaning, largest, degree_of, step_row,
 use crate::check::measure;
 use crate::part::{StateRows, rows_at};
 use crate::row::{Head, Row};
+use crate::row_tests::BeginsStep;
 use crate::table::Table;
 use choose::{choose_passing, count_passing};
 use source::label::Label;
@@ -81,7 +82,7 @@ impl<'a> Table<'a> {
         ensures few { result ≤ 64 }
     {
         let rows = self.rows_of(state).rows;
-        count_passing(|&i| rows[i].begins_step(), rows.len())
+        count_passing(&BeginsStep { rows }, rows.len())
     }
 
     // The row of the table where a step begins.
@@ -89,7 +90,7 @@ impl<'a> Table<'a> {
         ensures { result ≡ step_row self.now.rows.now state step }
     {
         let StateRows { before, rows } = self.rows_of(state);
-        let i = choose_passing(|&i| rows[i].begins_step(), rows.len(), step as usize)?;
+        let i = choose_passing(&BeginsStep { rows }, rows.len(), step as usize)?;
         Some(before + i)
     }
 }

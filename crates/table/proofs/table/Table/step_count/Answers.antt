@@ -1,7 +1,6 @@
 -- The steps of a state begin among its rows, and at most 64 leave it.
-use Rattle.std.proofs.Common.{◌≡◌, ◌∙◌, arith, rules}
-use Rattle.choose.proofs.Elements.{test_at}
-use Rattle.table.specs.Views.{begins, degree_of, no_row}
+use Rattle.std.proofs.Common.{◌≡◌, ◌∙◌, arith}
+use Rattle.table.specs.Views.{degree_of}
 use Rattle.table.proofs.Known.{steps_of, spells_of}
 use Rattle.table.proofs.Parts.{part_degree}
 use Rattle.table.proofs.Shown.{spells_shows}
@@ -12,7 +11,7 @@ returns c =
     let t = c.args.self.now in
     let s = c.args.state in
     let counted : c.count_passing.result ≡ degree_of t.rows.now s =
-    c.count_passing.ensures.value (test_at begins no_row c.rows_of.result.rows.now) (λ x r l k. search rules)
+    c.count_passing.ensures.value
     ∙ part_degree t.rows.now s c.rows_of.result.before c.rows_of.result.rows.now c.rows_of.ensures
     in
     record { value = counted; few = omega (arith, counted, (spells_shows t.head t.rows.now (steps_of t) (spells_of t)).degree s, (spells_of t).steps_fit.few s) }

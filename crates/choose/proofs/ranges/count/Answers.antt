@@ -1,6 +1,6 @@
 use Rattle.std.proofs.Common.{rules}
 use Rattle.choose.proofs.Passing.{callable_filter, counted_filter}
-use Rattle.choose.proofs.count_passing.Goals as goal
+use Rattle.choose.proofs.ranges.count.Goals as goal
 
 pub count-requires-clause-can : goal.count-requires-clause-can
 count-requires-clause-can g c =
