@@ -1,5 +1,6 @@
 // Counting and choosing among the numbers below a bound by a test: written and proved once, for
-// whatever has a test.
+// whatever has a test. Test and bound stay two parameters: a struct of both would be made for one
+// call and used up by it.
 #![tactic(auto)]
 
 mod ranges;

@@ -1,4 +1,5 @@
-// Chains over the numbers below a bound, for any closure as the test: it is asked to be callable there.
+// Chains over the numbers below a bound, for any closure as the test. They stand apart from the public
+// functions since they ask that the closure may be called there.
 ghost use Rattle.std.specs.Prelude.{◌≡◌, ℕ, ◌≤◌, Bool};
 ghost use Rattle.choose.specs.Choice.{count, chosen};
 ghost use Rattle.choose.specs.Tests.{Callable, Decides};
