@@ -1,9 +1,9 @@
 -- What a filtered range gives: the numbers that pass, in their order.
-use Rattle.std.proofs.Common.{◌≡◌, ◌↔◌, ℕ, ◌+◌, ◌-◌, ◌<◌, ◌≤◌, Bool, true, false, List, [], ◌∷◌, length, Some, None, Option, Bor, sym, ap, ◌∙◌, subst, arith}
+use Rattle.std.proofs.Common.{◌≡◌, ◌↔◌, ℕ, ◌+◌, ◌-◌, ◌<◌, ◌≤◌, Bool, true, false, MatchBool, List, [], ◌∷◌, length, Some, None, Option, Bor, refl, sym, ap, ◌∙◌, subst, arith, add-one}
 use Rattle.std.proofs.iter.Yields.{nat_range_steps}
 use Rattle.std.proofs.lemmas.Iterator.{first_from_Range, serves_from_Range}
 use Rattle.std.specs.Fn.{Called, CalledAt, TakesAt}
-use Rattle.std.specs.Iterator.{Yields, SkipsThenYields, Drains, FindsItem, CallableAtEachTurn}
+use Rattle.std.specs.Iterator.{Yields, YieldsThen, Drains, FindsItem, CallableAtEachTurn}
 use Rattle.std.specs.Iterator.Adapters.{filter_steps, filter_source, filter_callee}
 use Rattle.std.specs.List.{FoldsTo}
 use Rattle.std.specs.Option.{MatchOption}
@@ -12,7 +12,7 @@ use Rattle.std.specs.declared.ops.Range.{Range}
 use denote.Param.Members.{Mut, Shared}
 use Rattle.choose.specs.Choice.{count, chosen, Chosen}
 use Rattle.choose.specs.Tests.{Callable, Decides}
-use Rattle.choose.proofs.Laws.{count_sum, count_none, count_more, chosen_at, chosen_none}
+use Rattle.choose.proofs.Laws.{count_sum, count_none, count_more, count_fail, chosen_at, chosen_none}
 
 -- a count stays where no number passes
 pub count_stays : (p : ℕ → Bool) (m n : ℕ) → m ≤ n → ((j : ℕ) → m ≤ j → j < n → p j ≡ false) → count p n ≡ count p m
@@ -96,12 +96,6 @@ module _ {F : Type 0} (test : Shared F (Bor ℕ × Unit {0}) Bool) (g : Mut F (B
       pub counted_filter : (xs : List ℕ) → Drains (filter_steps nat_range_steps g) s xs → length xs ≡ count holds bound
       counted_filter xs d = sym (ends d.1.0 d.0 (length xs) (stood xs d.1.0 d.1.1) d.1.2)
 
-      -- after k others comes the number that is chosen
-      pub chosen_filter : (u : Filter (Range ℕ) F) (k : ℕ) (r : Option ℕ) → SkipsThenYields (filter_steps nat_range_steps g) s k r u → r ≡ chosen holds bound k
-      chosen_filter u k None (xs, y, few) = sym (chosen_none holds bound k (omega (arith, ends y.0 u (length xs) (stood xs y.0 y.1) y.2, few)))
-      chosen_filter u k (Some x) (xs, y, many) =
-          sym (chosen_at holds bound k x (subst (λ n. Chosen holds bound n x) many ((passes y.0 u (length xs) x (stood xs y.0 y.1) y.2).0)))
-
     -- the first that is found is the one that is chosen after none
     pub chosen_find : (s u : Range ℕ) (r : Option ℕ) → s.start ≡ 0 → s.end ≡ bound → FindsItem nat_range_steps g s f r u → r ≡ chosen holds bound 0
     chosen_find s u None start end d =
@@ -111,3 +105,57 @@ module _ {F : Type 0} (test : Shared F (Bor ℕ × Unit {0}) Bool) (g : Mut F (B
         let found = first_found s u (Some x) d in
         let below : x < bound = omega (arith, found.1) in
         sym (chosen_at holds bound 0 x (record { below = below; passes = found.2 below; after = count_none holds x (λ j l. found.3 j (omega arith) l (omega arith)) }))
+
+-- A fold over the numbers that takes one from what is left at each that passes, until one passes
+-- and nothing is left. Of its turns only this much is known.
+module _ {F : Type 0} (f : F) (holds : ℕ → Bool) (bound k : ℕ) (turn : F × ℕ → ℕ → F × ℕ → Type 0)
+    (tells : (left x : ℕ) (q : F × ℕ) → turn (f, left) x q → (q.0 ≡ f) × MatchBool (holds x) (left ≡ q.1 + 1) (q.1 ≡ left)) where
+  -- where it stands: what has passed and what is left are k together
+  record Left (s : Range ℕ) (left : ℕ) : Type 0 where
+    end : s.end ≡ bound
+    within : s.start ≤ bound
+    counted : count holds s.start + left ≡ k
+
+  counted_next : (x left next : ℕ) → count holds x + left ≡ k → MatchBool (holds x) (left ≡ next + 1) (next ≡ left) → count holds (x + 1) + next ≡ k
+  counted_next x left next e m = go (holds x) refl m where
+    go : (b : Bool) → holds x ≡ b → MatchBool b (left ≡ next + 1) (next ≡ left) → count holds (x + 1) + next ≡ k
+    go true p m = omega (arith, count_more holds x p, e, m)
+    go false p m =
+        let fail : count holds (x + 1) ≡ count holds x = rw add-one (count_fail holds x p) in
+        omega (arith, fail, e, m)
+
+  left_next : (s t : Range ℕ) (x left next : ℕ) → Left s left → nat_range_steps s (Some x) t → MatchBool (holds x) (left ≡ next + 1) (next ≡ left) → Left t next
+  left_next s t x left next at y m =
+      let start : t.start ≡ x + 1 = omega (arith, y.1.1, y.1.2) in
+      record {
+        end = y.0 ∙ at.end;
+        within = omega (arith, start, y.1.0, y.1.1, at.end);
+        counted = ap (λ n. count holds n + next) start ∙ counted_next x left next (ap (λ n. count holds n + left) y.1.1 ∙ at.counted) m;
+      }
+
+  left_after : (xs : List ℕ) (s t : Range ℕ) (left : ℕ) (q : F × ℕ) → Left s left → Yields nat_range_steps s xs t → FoldsTo turn (f, left) xs q → (q.0 ≡ f) × Left t q.1
+  left_after [] s t left q at y turns =
+      (ap (λ p. p.0) (sym turns), subst (λ s. Left s q.1) y (subst (λ p. Left s p.1) turns at))
+  left_after (x ∷ xs) s t left q at (j, e, y) (p, called, turns) =
+      let told = tells left x p called in
+      left_after xs j t p.1 q (left_next s j x left p.1 at e told.1) y (subst (λ h. FoldsTo turn (h, p.1) xs q) told.0 turns)
+
+  -- the number at which the fold breaks off is the one that is chosen; where it never does, none is
+  pub chosen_fold : (xs : List ℕ) (o : Option ℕ) (q : F × ℕ) (u : Range ℕ) (r : Option ℕ) → YieldsThen nat_range_steps (record { start = 0; end = bound }) xs o u → FoldsTo turn (f, k) xs q
+      → MatchOption o (r ≡ None) (λ x. q.0 ≡ f → (holds x ≡ true) × (q.1 ≡ 0) × (r ≡ Some x)) → r ≡ chosen holds bound k
+  chosen_fold xs o q u r (t, y, step) turns ends =
+      let after = left_after xs (record { start = 0; end = bound }) t k q (record { end = refl; within = omega arith; counted = omega arith }) y turns in
+      go o step ends after.0 after.1 where
+        go : (o : Option ℕ) → nat_range_steps t o u → MatchOption o (r ≡ None) (λ x. q.0 ≡ f → (holds x ≡ true) × (q.1 ≡ 0) × (r ≡ Some x)) → q.0 ≡ f → Left t q.1 → r ≡ chosen holds bound k
+        go None step none same at =
+            let end : t.start ≡ bound = omega (arith, step.1.0, at.end, at.within) in
+            none ∙ sym (chosen_none holds bound k (omega (arith, ap (count holds) end, at.counted)))
+        go (Some x) step found same at =
+            let told = found same in
+            let below : x < bound = omega (arith, step.1.0, step.1.1, at.end) in
+            told.2 ∙ sym (chosen_at holds bound k x (record { below = below; passes = told.0; after = omega (arith, ap (count holds) step.1.1, at.counted, told.1) }))
+
+-- what follows in each case, follows of the match
+pub matches_so : {A : Type 0} {N M : Type 0} {S T : A → Type 0} (o : Option A) → (N → M) → ((x : A) → S x → T x) → MatchOption o N S → MatchOption o M T
+matches_so None none some m = none m
+matches_so (Some x) none some m = some x m

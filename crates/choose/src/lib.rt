@@ -31,7 +31,7 @@ pub fn choose_passing<P: Test>(test: &P, bound: usize, k: usize) -> Option<usize
     ensures value { result ≡ chosen (P.holds test.now) bound k }
     ensures undoes { Undoes (P.holds test.now) bound k result }
 {
-    ranges::nth(|&i| test.passes(i), bound, k)
+    ranges::nth(test, bound, k)
 }
 
 // The least number below `bound` that passes.

@@ -1,29 +1,32 @@
 -- The rows of one state: they are found where the halving says, and of the whole table only they count.
-use Rattle.std.proofs.Common.{◌≡◌, ℕ, ◌+◌, ◌-◌, ◌<◌, ◌≤◌, true, false, ◌&&◌, ltb, List, [], ◌++◌, length, get_or, take, drop, Option, sym, refl, ap, ◌∙◌, inl, inr, append-nil, arith, length-append, length-drop, length-take}
-use Rattle.std.proofs.lemmas.List.{get_or_default, get_or-take, get_or-drop, take-append-drop, drop-drop}
-use Rattle.std.proofs.lemmas.Bool.{cases_lt, eq-eqb, lt-ltb, ltb-true, ltb-false}
+use Rattle.std.proofs.Common.{◌≡◌, ℕ, ◌+◌, ◌-◌, ◌<◌, ◌≤◌, ◌&&◌, ltb, leb, List, [], ◌++◌, length, get_or, take, drop, Option, sym, refl, ap, ◌∙◌, inl, inr, append-nil, arith, length-append, length-drop, length-take}
+use Rattle.std.proofs.lemmas.List.{get_or-take, get_or-drop, take-append-drop, drop-drop}
+use Rattle.std.proofs.lemmas.Bool.{cases_lt, and_from, and_parts, eq-eqb, lt-ltb, ltb-false, leb-true, leb-false, le-leb, and_cases}
 use Rattle.std.proofs.Math.Bool.{and-true}
-use Rattle.choose.specs.Choice.{count, chosen}
+use Rattle.choose.specs.Choice.{count, chosen, Rising, Split}
 use Rattle.choose.proofs.Laws.{from_on, count_same, chosen_same}
 use Rattle.table.specs.declared.row.Row.{Row}
-use Rattle.std.specs.List.Sorted.{IsPartitionedBy, IsPartitionPoint}
-use Rattle.table.specs.Parts.{begins_in, Sorted, Splits, Part}
+use Rattle.table.specs.Parts.{from_reached, begins_in, Sorted, Splits, Part}
 use Rattle.table.specs.Views.{no_row, begins, step_row, degree_of}
 use Rattle.choose.proofs.Elements.{test_at, counted, counted_part, picked_part}
 use Rattle.table.proofs.StepRows.{begins_of, none_begun}
 
--- in sorted rows, those that leave a state below `from` are the first ones
-pub below_partitioned : (rows : List Row) (from : ℕ) → Sorted rows → IsPartitionedBy (λ row. ltb row.from from) rows
-below_partitioned rows from sorted i j d l m below =
-    let first = ap (λ (row : Row). row.from) (get_or_default rows i d no_row (omega arith)) in
-    let last = ap (λ (row : Row). row.from) (get_or_default rows j d no_row m) in
-    lt-ltb (get_or rows i d).from from (omega (arith, first, last, sorted i j l m, ltb-true (get_or rows j d).from from below))
+-- in sorted rows, those that leave a state not below `from` are the last ones
+pub reached_rising : (rows : List Row) (from : ℕ) → Sorted rows → Rising (from_reached rows from) (length rows)
+reached_rising rows from sorted i j l m pass =
+    let parts = and_parts (ltb i (length rows)) (leb from (get_or rows i no_row).from) pass in
+    let reached = leb-true from (get_or rows i no_row).from parts.1 in
+    and_from (ltb j (length rows)) (leb from (get_or rows j no_row).from) (lt-ltb j (length rows) m) (le-leb from (get_or rows j no_row).from (omega (arith, sorted i j l m)))
 
-pub partition_splits : (rows : List Row) (from n : ℕ) → n ≤ length rows → IsPartitionPoint (λ row. ltb row.from from ≡ true) (λ row. ltb row.from from ≡ false) rows n → Splits rows from n
-partition_splits rows from n within split = record {
-  within = within;
-  below = λ i l. ltb-true (get_or rows i no_row).from from (split.0 i no_row (omega arith) l);
-  reached = λ i l m. ltb-false (get_or rows i no_row).from from (split.1 i no_row l m);
+pub split_splits : (rows : List Row) (from n : ℕ) → Split (from_reached rows from) (length rows) n → Splits rows from n
+split_splits rows from n split = record {
+  within = split.within;
+  below = λ i l.
+      elim (and_cases (ltb i (length rows)) (leb from (get_or rows i no_row).from) (split.fails i l)) [
+        | inl past ↦ absurd (omega (arith, ltb-false i (length rows) past, split.within))
+        | inr fails ↦ leb-false from (get_or rows i no_row).from fails
+      ];
+  reached = λ i l m. leb-true from (get_or rows i no_row).from (and_parts (ltb i (length rows)) (leb from (get_or rows i no_row).from) (split.passes i l m)).1;
 }
 
 -- the rows between two places

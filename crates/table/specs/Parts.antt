@@ -1,7 +1,11 @@
 -- The rows of one state: a part of the table, since rows are sorted by the state that they leave.
-use Rattle.std.specs.Prelude.{◌≡◌, ℕ, ◌<◌, ◌≤◌, Bool, ◌&&◌, List, ◌++◌, length, slice_index_or, nat_lt}
+use Rattle.std.specs.Prelude.{◌≡◌, ℕ, ◌<◌, ◌≤◌, Bool, ◌&&◌, List, ◌++◌, length, slice_index_or, nat_le, nat_lt}
 use Rattle.table.specs.declared.row.Row.{Row}
 use Rattle.table.specs.Views.{begins, no_row}
+
+-- whether row i leaves a state that is not below `from`
+abbrev pub from_reached : List Row → ℕ → ℕ → Bool
+from_reached rows from i = nat_lt i (length rows) && nat_le from (slice_index_or rows i no_row).from
 
 -- whether row i begins a step
 abbrev pub begins_in : List Row → ℕ → Bool

@@ -3,6 +3,8 @@ ghost use Rattle.std.specs.Prelude.{◌<◌};
 ghost use Rattle.table.specs.Parts.{Part, Sorted, Splits};
 
 use crate::row::Row;
+use crate::row_tests::FromReached;
+use choose::split_passing;
 
 // The rows that leave one state, and how many rows of the table stand before them.
 #[derive(Clone, Copy)]
@@ -11,12 +13,14 @@ pub(crate) struct StateRows<'a> {
     pub(crate) rows: &'a [Row],
 }
 
-// How many rows leave a state below `from`: they stand first.
+// How many rows leave a state below `from`: they stand first. They are found by the halving that
+// `choose` promises, and not by the library's `partition_point`: what is proved of halving is then
+// proved of what answers the questions.
 fn rows_below(rows: &[Row], from: u32) -> usize
     requires { Sorted rows.now }
     ensures { Splits rows.now from result }
 {
-    rows.partition_point(|row| row.from < from)
+    split_passing(&FromReached { rows, from }, rows.len())
 }
 
 // The rows that leave a state.

@@ -46,8 +46,10 @@ impl Receiving {
     fn after(head: Head, channel: u8, value: u8) -> Option<Receiving>
         ensures { result ≡ receive_after head channel value }
     {
-        let next = value.checked_add(1).filter(|&next| next < head.range)?;
-        Some(Receiving { channel, next })
+        match value.checked_add(1) {
+            Some(next) if next < head.range => Some(Receiving { channel, next }),
+            _ => None,
+        }
     }
 }
 
@@ -126,7 +128,11 @@ pub(crate) fn read_table(head: Head, rows: &[Row]) -> Result<u32, Fault>
         widest: 0,
     };
     for (i, row) in rows.iter().enumerate() {
-        reading = reading.follow(head, *row).ok_or(Fault::Row(i + 1))?;
+        // a `match` and no `ok_or` with `?`, which makes a Result of each row's reading first
+        match reading.follow(head, *row) {
+            Some(after) => reading = after,
+            None => return Err(Fault::Row(i + 1)),
+        }
     }
     match reading.receive {
         None => Ok(reading.widest),
