@@ -127,14 +127,6 @@ impl Reader {
     }
 }
 
-// How many lines a text has.
-fn line_count(text: &str) -> usize
-    ensures count { result ≡ length (lines text.now) }
-    ensures room { result < usize.MAX }
-{
-    text.lines().count()
-}
-
 // Reads a text, or tells the first line that is not as expected. Each row has its line.
 pub fn read_text(heap: Global, text: &str) -> Result<TextTable, TextFault>
     ensures each { IfOk result (λ t. vec_len t.lines ≡ vec_len t.rows) }
@@ -145,16 +137,19 @@ pub fn read_text(heap: Global, text: &str) -> Result<TextTable, TextFault>
         place: Place::States,
         numbered: NumberedRows::new(heap),
     };
+    // how many lines have come, so that a text that ends too early is gone through only once
+    let mut count = 0;
     for (before, line) in text.lines().enumerate() {
+        count = before + 1;
         let words = Words::of(heap, line)?;
         if !words.is_empty() {
-            reader.read(&words, before + 1)?;
+            reader.read(&words, count)?;
         }
     }
     let Reader { place, numbered } = reader;
     let NumberedRows { rows, lines } = numbered;
     match place.head() {
         Ok(head) => Ok(TextTable { head, rows, lines }),
-        Err(expected) => Err(TextFault::Line(line_count(text) + 1, expected)),
+        Err(expected) => Err(TextFault::Line(count.saturating_add(1), expected)),
     }
 }

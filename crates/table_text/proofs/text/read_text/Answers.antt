@@ -12,10 +12,13 @@ loop-before-preserved c =
     let come = length c.loop-before.yielded in
     let next : (c.in-Some.before ≡ come) × (come < length (lines c.args.text.now)) = line_comes c.args.text.now c.into_iter-before-iterator.result (search rules) (search rules) c.loop-before.yielded c.loop-before.before-iterator c.loop-before.yielded_by c.next.new.self (c.in-Some.before, c.in-Some.line) c.in-Some.ensures.steps in
     rw length-append
-    (elim c.if-not-is_empty.branch [
-      | then-not-is_empty+in_ok-read w ↦ rw w.reader-is (rising_adds come (c.in-Some.before + 1) c.loop-before.reader.numbered.lines.items w.read.new.self.numbered.lines.items (omega (arith, next.0)) c.loop-before.invariant w.in_ok-read.ensures.lines)
-      | else-not-is_empty w ↦ rw w.reader-is (rising_wider come (come + 1) c.loop-before.reader.numbered.lines.items (omega arith) c.loop-before.invariant)
-    ])
+    (record {
+      come = omega (arith, next.0);
+      rising = elim c.if-not-is_empty.branch [
+        | then-not-is_empty+in_ok-read w ↦ rw w.reader-is (rising_adds come (c.in-Some.before + 1) c.loop-before.reader.numbered.lines.items w.read.new.self.numbered.lines.items (omega (arith, next.0)) c.loop-before.invariant.rising w.in_ok-read.ensures.lines)
+        | else-not-is_empty w ↦ rw w.reader-is (rising_wider come (come + 1) c.loop-before.reader.numbered.lines.items (omega arith) c.loop-before.invariant.rising)
+      ];
+    })
 
 pub returns-in_err-read-clause-told : goal.returns-in_err-read-clause-told
 returns-in_err-read-clause-told c =
@@ -27,4 +30,9 @@ returns-in_err-read-clause-told c =
 pub returns-in-Ok-clause-rising : goal.returns-in-Ok-clause-rising
 returns-in-Ok-clause-rising c =
     let all = all_come c.args.text.now c.into_iter-before-iterator.result (search rules) (search rules) c.loop-before.yielded c.loop-before.before-iterator c.loop-before.yielded_by c.next.new.self c.in-None.ensures.steps in
-    rw (← all) c.loop-before.invariant
+    rw (← all) c.loop-before.invariant.rising
+
+pub returns-in-Err-clause-told : goal.returns-in-Err-clause-told
+returns-in-Err-clause-told c =
+    let all = all_come c.args.text.now c.into_iter-before-iterator.result (search rules) (search rules) c.loop-before.yielded c.loop-before.before-iterator c.loop-before.yielded_by c.next.new.self c.in-None.ensures.steps in
+    (omega (arith, c.saturating_add.ensures), omega (arith, c.saturating_add.ensures, all, c.loop-before.invariant.come))
