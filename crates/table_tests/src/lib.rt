@@ -6,6 +6,8 @@ mod checks;
 #[cfg(test)]
 mod large;
 #[cfg(test)]
+mod relays;
+#[cfg(test)]
 mod rows;
 #[cfg(test)]
 mod surveys;
