@@ -23,7 +23,8 @@ pub(crate) fn nth<T: Test>(test: &T, bound: usize, k: usize) -> Option<usize>
 {
     (0..bound)
         .try_fold(k, |left, i| {
-            left.checked_sub(usize::from(test.passes(i))).ok_or(i)
+            let one = usize::from(test.passes(i));
+            if one <= left { Ok(left - one) } else { Err(i) }
         })
         .err()
 }
