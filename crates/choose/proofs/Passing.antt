@@ -1,4 +1,4 @@
--- What a filtered range gives: the numbers that pass, in their order.
+-- What a filtered range and a fold over a range give: how many numbers pass, and which one after others.
 use Rattle.std.proofs.Common.{◌≡◌, ◌↔◌, ℕ, ◌+◌, ◌-◌, ◌<◌, ◌≤◌, Bool, true, false, MatchBool, List, [], ◌∷◌, length, Some, None, Option, Bor, refl, sym, ap, ◌∙◌, subst, arith, add-one}
 use Rattle.std.proofs.iter.Yields.{nat_range_steps}
 use Rattle.std.proofs.lemmas.Iterator.{first_from_Range, serves_from_Range}
@@ -10,7 +10,7 @@ use Rattle.std.specs.Option.{MatchOption}
 use Rattle.std.specs.declared.iter.Filter.{Filter}
 use Rattle.std.specs.declared.ops.Range.{Range}
 use denote.Param.Members.{Mut, Shared}
-use Rattle.choose.specs.Choice.{count, chosen, Chosen}
+use Rattle.choose.specs.Choice.{count, chosen}
 use Rattle.choose.specs.Tests.{Callable, Decides}
 use Rattle.choose.proofs.Laws.{count_sum, count_none, count_more, count_fail, chosen_at, chosen_none}
 
@@ -58,22 +58,20 @@ module _ {F : Type 0} (test : Shared F (Bor ℕ × Unit {0}) Bool) (g : Mut F (B
     same_callee [] p q same c = sym c ∙ same
     same_callee (x ∷ xs) p q same (j, e, c) = same_callee xs j q (same_at x false j (subst (λ k. CalledAt g k x false j) same e)) c
 
-    -- the next number that comes is the next that passes
-    passes : (s t : Filter (Range ℕ) F) (n x : ℕ) → At s n → filter_steps nat_range_steps g s (Some x) t → Chosen holds bound n x × At t (n + 1)
+    -- the next number that comes is the next that passes, so one more has passed
+    passes : (s t : Filter (Range ℕ) F) (n x : ℕ) → At s n → filter_steps nat_range_steps g s (Some x) t → At t (n + 1)
     passes s t n x at (xs, j, y, c, called) =
         let is = same_callee xs (filter_callee s) j at.callee c in
         let found = first_found (filter_source s) (filter_source t) (Some x) (xs, j, y, subst (λ k. FoldsTo (λ p x q. CalledAt g p x false q) k xs j) at.callee c, (filter_callee t, called)) in
         let below : x < bound = omega (arith, found.1, at.end) in
         let after : count holds x ≡ n = count_stays holds (filter_source s).start x found.0 (λ k a b. found.3 k a b (omega (arith, below))) ∙ at.counted in
-        let next : (filter_source t).start ≡ x + 1 = omega (arith, y.2.1.1, y.2.1.2) in (
-          record { below = below; passes = found.2 below; after = after },
-          record {
-            callee = same_at x true (filter_callee t) (subst (λ k. CalledAt g k x true (filter_callee t)) is called);
-            end = y.2.0 ∙ same_end xs (filter_source s) y.0 y.1 ∙ at.end;
-            within = omega (arith, next, below);
-            counted = ap (count holds) next ∙ count_more holds x (found.2 below) ∙ ap (λ k. k + 1) after;
-          },
-        )
+        let next : (filter_source t).start ≡ x + 1 = omega (arith, y.2.1.1, y.2.1.2) in
+        record {
+          callee = same_at x true (filter_callee t) (subst (λ k. CalledAt g k x true (filter_callee t)) is called);
+          end = y.2.0 ∙ same_end xs (filter_source s) y.0 y.1 ∙ at.end;
+          within = omega (arith, next, below);
+          counted = ap (count holds) next ∙ count_more holds x (found.2 below) ∙ ap (λ k. k + 1) after;
+        }
 
     -- where none comes any more, none passes
     ends : (s t : Filter (Range ℕ) F) (n : ℕ) → At s n → filter_steps nat_range_steps g s None t → count holds bound ≡ n
@@ -84,7 +82,7 @@ module _ {F : Type 0} (test : Shared F (Bor ℕ × Unit {0}) Bool) (g : Mut F (B
     more : (xs : List ℕ) (s t : Filter (Range ℕ) F) (n : ℕ) → At s n → Yields (filter_steps nat_range_steps g) s xs t → At t (n + length xs)
     more [] s t n at y = subst (λ k. At k (n + 0)) y (subst (At s) (omega arith) at)
     more (x ∷ xs) s t n at (j, e, y) =
-        subst (At t) (omega arith) (more xs j t (n + 1) ((passes s j n x at e).1) y)
+        subst (At t) (omega arith) (more xs j t (n + 1) (passes s j n x at e) y)
 
     module _ (s : Filter (Range ℕ) F) (callee : filter_callee s ≡ f) (source : filter_source s ≡ record { start = 0; end = bound }) where
       stood : (xs : List ℕ) (t : Filter (Range ℕ) F) → Yields (filter_steps nat_range_steps g) s xs t → At t (length xs)

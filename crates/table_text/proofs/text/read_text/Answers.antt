@@ -14,6 +14,7 @@ loop-before-preserved c =
     rw length-append
     (record {
       come = omega (arith, next.0);
+      within = omega (arith, next.0, next.1);
       rising = elim c.if-not-is_empty.branch [
         | then-not-is_empty+in_ok-read w ↦ rw w.reader-is (rising_adds come (c.in-Some.before + 1) c.loop-before.reader.numbered.lines.items w.read.new.self.numbered.lines.items (omega (arith, next.0)) c.loop-before.invariant.rising w.in_ok-read.ensures.lines)
         | else-not-is_empty w ↦ rw w.reader-is (rising_wider come (come + 1) c.loop-before.reader.numbered.lines.items (omega arith) c.loop-before.invariant.rising)
@@ -31,8 +32,3 @@ pub returns-in-Ok-clause-rising : goal.returns-in-Ok-clause-rising
 returns-in-Ok-clause-rising c =
     let all = all_come c.args.text.now c.into_iter-before-iterator.result (search rules) (search rules) c.loop-before.yielded c.loop-before.before-iterator c.loop-before.yielded_by c.next.new.self c.in-None.ensures.steps in
     rw (← all) c.loop-before.invariant.rising
-
-pub returns-in-Err-clause-told : goal.returns-in-Err-clause-told
-returns-in-Err-clause-told c =
-    let all = all_come c.args.text.now c.into_iter-before-iterator.result (search rules) (search rules) c.loop-before.yielded c.loop-before.before-iterator c.loop-before.yielded_by c.next.new.self c.in-None.ensures.steps in
-    (omega (arith, c.saturating_add.ensures), omega (arith, c.saturating_add.ensures, all, c.loop-before.invariant.come))
