@@ -15,6 +15,9 @@ count_fail p n e = cond-false (p n) _ _ e
 pub count_more : (p : ℕ → Bool) (n : ℕ) → p n ≡ true → count p (n + 1) ≡ count p n + 1
 count_more p n e = rw add-one (omega (arith, count_pass p n e))
 
+pub count_no_more : (p : ℕ → Bool) (n : ℕ) → p n ≡ false → count p (n + 1) ≡ count p n
+count_no_more p n e = rw add-one (count_fail p n e)
+
 pub count_at_most : (p : ℕ → Bool) (n : ℕ) → count p n ≤ n
 count_at_most p zero = omega arith
 count_at_most p (suc n) =

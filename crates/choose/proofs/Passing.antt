@@ -1,5 +1,5 @@
 -- What a filtered range and a fold over a range give: how many numbers pass, and which one after others.
-use Rattle.std.proofs.Common.{◌≡◌, ◌↔◌, ℕ, ◌+◌, ◌-◌, ◌<◌, ◌≤◌, Bool, true, false, MatchBool, List, [], ◌∷◌, length, Some, None, Option, Bor, refl, sym, ap, ◌∙◌, subst, arith, add-one}
+use Rattle.std.proofs.Common.{◌≡◌, ◌↔◌, ℕ, ◌+◌, ◌-◌, ◌<◌, ◌≤◌, Bool, true, false, MatchBool, List, [], ◌∷◌, length, Some, None, Option, Bor, refl, sym, ap, ◌∙◌, subst, arith}
 use Rattle.std.proofs.iter.Yields.{nat_range_steps}
 use Rattle.std.proofs.lemmas.Iterator.{first_from_Range, serves_from_Range}
 use Rattle.std.specs.Fn.{Called, CalledAt, TakesAt}
@@ -12,7 +12,7 @@ use Rattle.std.specs.declared.ops.Range.{Range}
 use denote.Param.Members.{Mut, Shared}
 use Rattle.choose.specs.Choice.{count, chosen}
 use Rattle.choose.specs.Tests.{Callable, Decides}
-use Rattle.choose.proofs.Laws.{count_sum, count_none, count_more, count_fail, chosen_at, chosen_none}
+use Rattle.choose.proofs.Laws.{count_sum, count_none, count_more, count_no_more, chosen_at, chosen_none}
 
 -- a count stays where no number passes
 pub count_stays : (p : ℕ → Bool) (m n : ℕ) → m ≤ n → ((j : ℕ) → m ≤ j → j < n → p j ≡ false) → count p n ≡ count p m
@@ -118,9 +118,7 @@ module _ {F : Type 0} (f : F) (holds : ℕ → Bool) (bound k : ℕ) (turn : F �
   counted_next x left next e m = go (holds x) refl m where
     go : (b : Bool) → holds x ≡ b → MatchBool b (left ≡ next + 1) (next ≡ left) → count holds (x + 1) + next ≡ k
     go true p m = omega (arith, count_more holds x p, e, m)
-    go false p m =
-        let fail : count holds (x + 1) ≡ count holds x = rw add-one (count_fail holds x p) in
-        omega (arith, fail, e, m)
+    go false p m = omega (arith, count_no_more holds x p, e, m)
 
   left_next : (s t : Range ℕ) (x left next : ℕ) → Left s left → nat_range_steps s (Some x) t → MatchBool (holds x) (left ≡ next + 1) (next ≡ left) → Left t next
   left_next s t x left next at y m =

@@ -1,4 +1,5 @@
-// Examples of tables, their refusals and their surveys. Each is proved to be safe, and then run.
+// Examples of tables, their refusals and their surveys, and a walk over another trait. Each is proved
+// to be safe, and then run.
 #![tactic(auto)]
 
 #[cfg(test)]

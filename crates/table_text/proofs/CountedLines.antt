@@ -1,7 +1,7 @@
 -- A text is gone through line by line: each line comes with how many have come before it.
-use Rattle.std.proofs.Common.{◌≡◌, ℕ, ◌+◌, ◌<◌, List, length, Some, None, refl, ap, ◌∙◌, arith, Bor}
+use Rattle.std.proofs.Common.{◌≡◌, ℕ, ◌+◌, ◌<◌, List, length, Some, refl, ap, ◌∙◌, arith, Bor}
 use Rattle.std.proofs.lemmas.Iterator.{YieldsList}
-use Rattle.std.proofs.lemmas.Iterator.Consumers.{YieldsList-from_enumerate, YieldsList-turn, YieldsList-end}
+use Rattle.std.proofs.lemmas.Iterator.Consumers.{YieldsList-from_enumerate, YieldsList-turn}
 use Rattle.std.proofs.lemmas.Iterator.Splits.{YieldsList-from_lines}
 use Rattle.std.proofs.lemmas.List.FromFn.{length-enumerate_from, get_or-enumerate_from}
 use Rattle.std.specs.Iterator.{Yields}
@@ -22,6 +22,3 @@ module _ (text : List ℕ) (s : Enumerate Lines) (rest : lines_rest (enumerate_s
       let within : length come < length (lines text) = omega (arith, turn.0, length-enumerate_from 0 (lines text)) in
       let same : x.0 ≡ 0 + length come = ap (λ p. p.0) (turn.1 ∙ get_or-enumerate_from 0 (lines text) (length come) (x.0, x.1.now) within) in
       (omega (arith, same), within)
-
-  pub all_come : enumerate_steps lines_steps t None u → length come ≡ length (lines text)
-  all_come step = (YieldsList-end numbered come t yields None u refl step).1 ∙ length-enumerate_from 0 (lines text)

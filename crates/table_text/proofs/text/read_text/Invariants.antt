@@ -8,5 +8,5 @@ abbrev pub invariant-loop-before : goal.invariant-loop-before
 invariant-loop-before l = record {
   come : l.count ≡ length l.yielded;
   within : l.count ≤ length (lines l.text);
-  rising : RisingLines (length l.yielded) l.reader.numbered.lines.items;
+  rising : RisingLines l.count l.reader.numbered.lines.items;
 }
